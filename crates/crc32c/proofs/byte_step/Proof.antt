@@ -1,0 +1,12 @@
+use borrow.Author.Needs.{needs}
+use Rattle.crc32c.specs.Reflected.{byteStep, bitSteps}
+use Rattle.crc32c.proofs.byte_step.Statement.{statement}
+use Rattle.crc32c.proofs.byte_step.Tie as tie
+
+returns : tie.Need-returns
+unfolding byteStep bitSteps
+returns c = cc
+
+pub byte-step-spec : {M : Type 1} → statement M
+byte-step-spec =
+    tie.close (tie.spec (λ c κs. tt) (λ c κs. tt) (λ c κs. tt) (λ c κs. tt) (λ c κs. tt) (λ c κs. tt) (λ c κs. tt) (λ c κs. tt) returns)

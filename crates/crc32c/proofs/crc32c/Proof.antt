@@ -1,0 +1,57 @@
+use mathlib.Core.Path.{_≡_, refl, sym, ap, _∙_}
+use mathlib.Core.List.{List, [], _∷_}
+use Prim.Native.Nat.{ℕ, suc, _+_, _-_, _≤_, _<_}
+use native.Mathlib.Omega.{arith}
+use native.Mathlib.Numerals.{add-one}
+use lib.ListN.{length, drop, getD, drop-of-length-le}
+use lib.Seq.{drop-cons}
+use lib.Bits.{bitXor}
+use borrow.Author.Needs.{needs}
+use Rattle.crc32c.specs.Crc32c.{start, crc32c}
+use Rattle.crc32c.specs.Reflected.{byteStep, through}
+use Rattle.crc32c.proofs.Same.{same}
+use Rattle.crc32c.proofs.crc32c.Statement.{statement}
+use Rattle.crc32c.proofs.crc32c.Tie as tie
+
+-- the through x goes through the bytes that are left as the first one goes through all
+abbrev Inv-loop : tie.InvT-loop
+Inv-loop s x₀ i₀ x i = (i ≤ length s) × (through x (drop i s) ≡ through start s)
+
+abbrev μ-loop : tie.MeasureT-loop
+μ-loop s x₀ i₀ x i = length s - i
+
+turn : (s : List ℕ) (x y i : ℕ) → i < length s → y ≡ byteStep x (getD s i 0) → through y (drop (i + 1) s) ≡ through x (drop i s)
+unfolding through
+turn s x y i h e = rw (add-one i, e, drop-cons s i 0 h)
+
+loop-holds : tie.Need-loop-holds Inv-loop μ-loop
+loop-holds c = search needs
+
+shared-slice-read-byte-step : tie.Need-shared-slice-read-byte-step Inv-loop μ-loop
+shared-slice-read-byte-step c = search needs
+
+byte-step-requires : tie.Need-byte-step-requires Inv-loop μ-loop
+byte-step-requires c κs = search needs
+
+add-i : tie.Need-add-i Inv-loop μ-loop
+add-i c = search needs
+
+loop-less : tie.Need-loop-less Inv-loop μ-loop
+loop-less c = search needs
+
+loop-again : tie.Need-loop-again Inv-loop μ-loop
+loop-again c =
+    let at-loop = c .before .before .before in
+    let s = at-loop .before .before .args .bytes .now in
+    (search needs, turn s (at-loop .loop .x) (c .byte-step .result) (at-loop .loop .i) (c .before .before .loop-test .taken) (c .byte-step .ensures) ∙ at-loop .loop .inv .1)
+
+returns : tie.Need-returns Inv-loop μ-loop
+unfolding through
+returns c =
+    let at-loop = c .before in
+    let s = at-loop .before .before .args .bytes .now in
+    ap (λ (y : ℕ). bitXor y 0xFFFFFFFF) (rw (drop-of-length-le s (c .loop-test .left)) at (at-loop .loop .inv .1))
+    ∙ sym (same s (λ i. at-loop .before .shared-slice-known .given i .fits))
+
+pub crc32c-spec : {M : Type 1} → statement M
+crc32c-spec = tie.close (tie.spec Inv-loop μ-loop loop-holds shared-slice-read-byte-step byte-step-requires add-i loop-less loop-again returns)

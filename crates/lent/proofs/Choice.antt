@@ -1,0 +1,27 @@
+-- Laws of the choice: what holds of both answers holds of the choice; a choice that is known not to be its first answer is its second.
+-- Assumes nothing.
+use mathlib.Core.Path.{_≡_, refl, sym, _∙_}
+use mathlib.Core.Bool.{Bool, true, false, not, _&&_, _||_}
+use Rattle.lent.specs.Choice.{if_then_else_}
+
+pub if-ind {ℓ κ} : {A : Type ℓ} (P : A → Type κ) (b : Bool) {x y : A} → (b ≡ true → P x) → (b ≡ false → P y) → P (if b then x else y)
+if-ind P true f g = f refl
+if-ind P false f g = g refl
+
+pub if-second {ℓ} : {A : Type ℓ} (b : Bool) {x y z : A} → (x ≡ z → ⊥) → _≡_ (if b then x else y) z → (b ≡ false) × (y ≡ z)
+if-second true n e = absurd (n e)
+if-second false n e = (refl, e)
+
+pub if-first {ℓ} : {A : Type ℓ} (b : Bool) {x y z : A} → (y ≡ z → ⊥) → _≡_ (if b then x else y) z → (b ≡ true) × (x ≡ z)
+if-first true n e = (refl, e)
+if-first false n e = absurd (n e)
+
+-- ---- tests joined
+
+pub or-left : (a b : Bool) → (a || b) ≡ false → a ≡ false
+or-left true b e = e
+or-left false b e = refl
+
+pub or-right : (a b : Bool) → (a || b) ≡ false → b ≡ false
+or-right true b e = cc
+or-right false b e = e

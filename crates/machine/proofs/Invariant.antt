@@ -1,0 +1,192 @@
+-- The invariant as a test and the invariant as facts say the same.
+-- Assumes nothing.
+use Prim.Native.Nat.{ℕ, zero, suc, _*_, _/_, _%_, _^_, _≤_, _<_}
+use mathlib.Core.Path.{_≡_, refl, sym, ap, _∙_}
+use mathlib.Core.Bool.{Bool, true, false, not, _&&_, _||_}
+use mathlib.Core.List.{List, [], _∷_}
+use lib.Dec.{eqb, leb, ltb}
+use lib.ListN.{length}
+use borrow.Author.Tests.{ltb-true, leb-true, eqb-true, lt-ltb, le-leb, eq-eqb, not-true}
+use Rattle.machine.specs.State.{isIdle}
+use Rattle.machine.specs.Wire.{unit, store-size, smallest}
+use Rattle.machine.specs.Poll.{otherSlot}
+use Rattle.machine.specs.Valid.{smallest-response, between, phased, unpausedIdle, gatheredFits, apart, packetLeft, messageFits, waitsPaused, isBegun, begunTurn, flagsRight, allOf, clauses, validWith, valid, Fits, PhaseFacts, ValidSlot, ValidSlots, two, ValidFlags, Valid}
+use Rattle.machine.specs.declared.Phase.{Phase}
+use Rattle.machine.specs.declared.Phase.the-variants.{Idle, Receive, Process, Answered, Transmit}
+use Rattle.machine.specs.declared.Slot.{Slot}
+use Rattle.machine.specs.declared.Endpoint.{Endpoint}
+use Rattle.machine.proofs.Slots.{false-true, and-both}
+
+both-and : (a b : Bool) → a ≡ true → b ≡ true → (a && b) ≡ true
+both-and a b p q = rw (p, q) refl
+
+within : (low high n : ℕ) → between low high n ≡ true → (low ≤ n) × (n ≤ high)
+within low high n h = let k = and-both (leb low n) (leb n high) h in (leb-true low n (k .0), leb-true n high (k .1))
+
+is-within : (low high n : ℕ) → low ≤ n → n ≤ high → between low high n ≡ true
+is-within low high n a b = both-and (leb low n) (leb n high) (le-leb low n a) (le-leb n high b)
+
+-- ---- one slot: five of the clauses speak of it alone
+
+pub record Passes (b : Bool) (p : Phase) : Type 0 where
+  pub idle : not (isIdle p && b) ≡ true
+  pub gathered : gatheredFits p ≡ true
+  pub left : packetLeft p ≡ true
+  pub fits : messageFits p ≡ true
+  pub waits : phased true (λ a. true) (λ r. true) (λ r. b && eqb (r .sent) 0) (λ r. true) p ≡ true
+
+to-facts : (b : Bool) (p : Phase) → Passes b p → PhaseFacts b p
+to-facts b Idle c = not-true b (c .idle)
+to-facts b (Receive a) c = within unit store-size (a .length) (c .gathered)
+to-facts b (Process r) c = within smallest store-size (r .length) (c .fits)
+to-facts b (Answered r) c =
+    let k = and-both b (eqb (r .sent) 0) (c .waits) in
+    let f = within smallest-response store-size (r .length) (c .fits) in
+    (k .0, eqb-true (r .sent) 0 (k .1), record { least = f .0; most = f .1 })
+to-facts b (Transmit r) c =
+    let f = within smallest-response store-size (r .length) (c .fits) in
+    (ltb-true (unit * r .sent) (r .length) (c .left), record { least = f .0; most = f .1 })
+
+of-facts : (b : Bool) (p : Phase) → PhaseFacts b p → Passes b p
+of-facts b Idle f = record { idle = rw f refl; gathered = refl; left = refl; fits = refl; waits = refl }
+of-facts b (Receive a) f = record { idle = refl; gathered = is-within unit store-size (a .length) (f .0) (f .1); left = refl; fits = refl; waits = refl }
+of-facts b (Process r) f = record { idle = refl; gathered = refl; left = refl; fits = is-within smallest store-size (r .length) (f .0) (f .1); waits = refl }
+of-facts b (Answered r) f =
+    record {
+      idle = refl;
+      gathered = refl;
+      left = refl;
+      fits = is-within smallest-response store-size (r .length) (f .2 .least) (f .2 .most);
+      waits = both-and b (eqb (r .sent) 0) (f .0) (eq-eqb (r .sent) 0 (f .1));
+    }
+of-facts b (Transmit r) f =
+    record {
+      idle = refl;
+      gathered = refl;
+      left = lt-ltb (unit * r .sent) (r .length) (f .0);
+      fits = is-within smallest-response store-size (r .length) (f .1 .least) (f .1 .most);
+      waits = refl;
+    }
+
+-- ---- the turn of a begun response
+
+to-turn : (b : Bool) (turn i : ℕ) → (not b || eqb turn (otherSlot i)) ≡ true → b ≡ true → turn ≡ otherSlot i
+to-turn true turn i h e = eqb-true turn (otherSlot i) h
+to-turn false turn i h e = false-true e
+
+of-turn : (b : Bool) (turn i : ℕ) → (b ≡ true → turn ≡ otherSlot i) → (not b || eqb turn (otherSlot i)) ≡ true
+of-turn true turn i h = eq-eqb turn (otherSlot i) (h refl)
+of-turn false turn i h = refl
+
+-- ---- the whole
+
+-- each test of a list holds
+abbrev Each : List Bool → Type 0
+Each [] = Unit {0}
+Each (b ∷ bs) = (b ≡ true) × Each bs
+
+each : (l : List Bool) → allOf l ≡ true → Each l
+each [] h = tt
+each (b ∷ bs) h = let k = and-both b (allOf bs) h in (k .0, each bs (k .1))
+
+all-hold : (l : List Bool) → Each l → allOf l ≡ true
+all-hold [] h = refl
+all-hold (b ∷ bs) h = both-and b (allOf bs) (h .0) (all-hold bs (h .1))
+
+-- of two slots, a clause that speaks of each
+firsts : (f : Slot → Bool) (s t : Slot) → (f s && f t) ≡ true → (f s ≡ true) × (f t ≡ true)
+firsts f s t h = and-both (f s) (f t) h
+
+valid-two : (e : Endpoint) (s t : Slot) → e .slots ≡ s ∷ t ∷ [] → Each (clauses e s t) → Valid e
+valid-two e s t slots-are h =
+    let idle = firsts unpausedIdle s t (h .1 .1 .0) in
+    let gathered = firsts (λ (x : Slot). gatheredFits (x .phase)) s t (h .1 .1 .1 .0) in
+    let left = firsts (λ (x : Slot). packetLeft (x .phase)) s t (h .1 .1 .1 .1 .1 .0) in
+    let fits = firsts (λ (x : Slot). messageFits (x .phase)) s t (h .1 .1 .1 .1 .1 .1 .0) in
+    let waits = firsts waitsPaused s t (h .1 .1 .1 .1 .1 .1 .1 .0) in
+    let turns = and-both (begunTurn (e .turn) 0 (s .phase)) (begunTurn (e .turn) 1 (t .phase)) (h .1 .1 .1 .1 .1 .1 .1 .1 .0) in
+    let flags = and-both (eqb (e .flags % 2 ^ 4) 0 && eqb (e .flags / 2 ^ 13 % 2) 0) (eqb (e .flags / 2 ^ 15) 0) (h .1 .1 .1 .1 .1 .1 .1 .1 .1 .0) in
+    let low = and-both (eqb (e .flags % 2 ^ 4) 0) (eqb (e .flags / 2 ^ 13 % 2) 0) (flags .0) in
+    let eid = within 8 254 (e .eid) (h .0) in
+    record {
+      eid-least = eid .0;
+      eid-most = eid .1;
+      turn-most = leb-true (e .turn) 1 (h .1 .0);
+      slots-valid =
+          rw slots-are
+          (two
+          (record {
+            phase-facts = to-facts (s .paused) (s .phase) (record { idle = idle .0; gathered = gathered .0; left = left .0; fits = fits .0; waits = waits .0 });
+            begun-turn = to-turn (isBegun (s .phase)) (e .turn) 0 (turns .0);
+          })
+          (record {
+            phase-facts = to-facts (t .paused) (t .phase) (record { idle = idle .1; gathered = gathered .1; left = left .1; fits = fits .1; waits = waits .1 });
+            begun-turn = to-turn (isBegun (t .phase)) (e .turn) 1 (turns .1);
+          })
+          (h .1 .1 .1 .1 .0));
+      flags-valid =
+          record {
+            low = eqb-true (e .flags % 2 ^ 4) 0 (low .0);
+            thirteen = eqb-true (e .flags / 2 ^ 13 % 2) 0 (low .1);
+            top = eqb-true (e .flags / 2 ^ 15) 0 (flags .1);
+          };
+      reply-twelve = eqb-true (length (e .reply)) 12 (h .1 .1 .1 .1 .1 .1 .1 .1 .1 .1 .0);
+    }
+
+-- a state that passes the test has the facts
+pub valid-facts : (e : Endpoint) → valid e ≡ true → Valid e
+unfolding valid
+valid-facts e h = go (e .slots) refl h
+  where
+    go : (l : List Slot) → e .slots ≡ l → validWith e l ≡ true → Valid e
+    go [] p k = false-true k
+    go (s ∷ []) p k = false-true k
+    go (s ∷ t ∷ []) p k = valid-two e s t p (each (clauses e s t) k)
+    go (s ∷ t ∷ u ∷ l) p k = false-true k
+
+-- a state that has the facts passes the test
+pub facts-valid : (e : Endpoint) → Valid e → valid e ≡ true
+unfolding valid
+facts-valid e v = go (e .slots) (v .slots-valid)
+  where
+    go : (l : List Slot) → ValidSlots (e .turn) l → validWith e l ≡ true
+    go _ (two {s} {t} vs vt k) =
+        let ps = of-facts (s .paused) (s .phase) (vs .phase-facts) in
+        let pt = of-facts (t .paused) (t .phase) (vt .phase-facts) in
+        let f = v .flags-valid in
+        let turn-s : begunTurn (e .turn) 0 (s .phase) ≡ true = of-turn (isBegun (s .phase)) (e .turn) 0 (vs .begun-turn) in
+        let turn-t : begunTurn (e .turn) 1 (t .phase) ≡ true = of-turn (isBegun (t .phase)) (e .turn) 1 (vt .begun-turn) in
+        all-hold (clauses e s t) (
+          is-within 8 254 (e .eid) (v .eid-least) (v .eid-most),
+          (
+            le-leb (e .turn) 1 (v .turn-most),
+            (
+              both-and (unpausedIdle s) (unpausedIdle t) (ps .idle) (pt .idle),
+              (
+                both-and (gatheredFits (s .phase)) (gatheredFits (t .phase)) (ps .gathered) (pt .gathered),
+                (
+                  k,
+                  (
+                    both-and (packetLeft (s .phase)) (packetLeft (t .phase)) (ps .left) (pt .left),
+                    (
+                      both-and (messageFits (s .phase)) (messageFits (t .phase)) (ps .fits) (pt .fits),
+                      (
+                        both-and (waitsPaused s) (waitsPaused t) (ps .waits) (pt .waits),
+                        (
+                          both-and (begunTurn (e .turn) 0 (s .phase)) (begunTurn (e .turn) 1 (t .phase)) turn-s turn-t,
+                          (
+                            rw (f .low, f .thirteen, f .top) refl,
+                            (
+                              eq-eqb (length (e .reply)) 12 (v .reply-twelve),
+                              tt,
+                            ),
+                          ),
+                        ),
+                      ),
+                    ),
+                  ),
+                ),
+              ),
+            ),
+          ),
+        )

@@ -1,0 +1,4 @@
+pub mod Slots
+pub mod Receiving
+pub mod Keeps
+pub mod Invariant

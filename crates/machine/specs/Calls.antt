@@ -1,0 +1,91 @@
+-- The calls on one endpoint, and what one of them does to the endpoint and both stores. Setup is none of them: it starts a list of calls.
+-- Any slot number, ticket, bytes and buffer may be given, so refused calls are calls too.
+-- Assumes nothing.
+use Prim.Native.Nat.{ℕ}
+use mathlib.Core.List.{List, [], _∷_}
+use lib.ListN.{take}
+use Rattle.machine.specs.State.{World, Outcome, world, withEndpoint}
+use Rattle.machine.specs.Receive.{received}
+use Rattle.machine.specs.Finish.{taken, part, completed, timedOut, wasReset, wasSetUp}
+use Rattle.machine.specs.Poll.{Polled, polled}
+use Rattle.machine.specs.declared.Ticket.{Ticket}
+use Rattle.machine.specs.declared.Done.{Done}
+use Rattle.machine.specs.declared.TakeAnswer.{TakeAnswer}
+use Rattle.machine.specs.declared.TakeAnswer.the-variants.{Refused as TakeRefused, Given}
+use Rattle.machine.specs.declared.TakeDone.{TakeDone}
+use Rattle.machine.specs.declared.PollAnswer.{PollAnswer}
+use Rattle.machine.specs.declared.PollAnswer.the-variants.{Refused as PollRefused, Nothing, Packet}
+
+pub data Call : Type 0 where
+  -- a packet
+  receive : List ℕ → Call
+  -- a slot number
+  take! : ℕ → Call
+  read : ℕ → Call
+  -- a slot number, a ticket, the body
+  complete : ℕ → Ticket → List ℕ → Call
+  -- the lent buffer
+  poll : List ℕ → Call
+  timeout : ℕ → Call
+  reset : Call
+
+-- what a call answers
+pub data Event : Type 0 where
+  number : ℕ → Event
+  given : Ticket → Event
+  part-read : List ℕ → Event
+  -- answer 1 of a poll, with the packet that it handed out
+  handed-out : List ℕ → Event
+
+pub record Stepped : Type 0 where
+  pub event : Event
+  pub world : World
+
+abbrev pub stepped : Event → World → Stepped
+stepped v w = record { event = v; world = w }
+
+-- ---- what each call answers, as an event
+
+abbrev pub byOutcome : Outcome → Stepped
+byOutcome o = stepped (number (o .answer)) (o .world)
+
+abbrev pub byDone : World → Done → Stepped
+byDone w d = stepped (number (d .answer)) (withEndpoint w (d .endpoint))
+
+abbrev pub takeEvent : TakeAnswer → Event
+takeEvent (TakeRefused n) = number n
+takeEvent (Given t) = given t
+
+abbrev pub byTake : World → TakeDone → Stepped
+byTake w d = stepped (takeEvent (d .answer)) (withEndpoint w (d .endpoint))
+
+abbrev pub pollEvent : List ℕ → PollAnswer → Event
+pollEvent buffer (PollRefused n) = number n
+pollEvent buffer Nothing = number 0
+pollEvent buffer (Packet n) = handed-out (take n buffer)
+
+abbrev pub byPoll : World → Polled → Stepped
+byPoll w p = stepped (pollEvent (p .buffer) (p .answer)) (withEndpoint w (p .endpoint))
+
+-- ---- one call
+
+unfoldable pub step : Call → World → Stepped
+unfolding received taken part completed polled timedOut wasReset
+step (receive packet) w = byOutcome (received w packet)
+step (take! i) w = byTake w (taken (w .endpoint) i)
+step (read i) w = stepped (part-read (part w i)) w
+step (complete i t body) w = byOutcome (completed w i t body)
+step (poll buffer) w = byPoll w (polled w buffer)
+step (timeout i) w = byDone w (timedOut (w .endpoint) i)
+step reset w = byDone w (wasReset (w .endpoint))
+
+-- the world at the start of a list of calls: setup's state, whatever it answered, and any bytes in the stores
+unfoldable pub begin : ℕ → List ℕ → List ℕ → World
+unfolding wasSetUp
+begin eid store0 store1 = world (wasSetUp eid .endpoint) store0 store1
+
+-- what the calls of a list answer, one after the other
+unfoldable pub events : List Call → World → List Event
+unfolding step
+events [] w = []
+events (c ∷ cs) w = step c w .event ∷ events cs (step c w .world)

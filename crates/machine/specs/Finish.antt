@@ -1,0 +1,138 @@
+-- "Taking and finishing", timeout, reset and setup.
+-- Assumes nothing.
+use Prim.Native.Nat.{ℕ, _^_}
+use mathlib.Core.Bool.{Bool, true, false, not, _||_}
+use mathlib.Core.List.{List, [], _∷_}
+use lib.Dec.{eqb, ltb}
+use lib.ListN.{length, take, replicate}
+use Rattle.lent.specs.Choice.{if_then_else_}
+use Rattle.machine.specs.Answers.{done, no-such-slot, no-command, other-ticket, taken-already, not-taken, wrong-body-size, not-gathering, wrong-eid, wrong-stores}
+use Rattle.machine.specs.State.{World, Outcome, outcome, ended, slotAt, storeAt, withSlot, withPhase, idled, fresh, ticket, endpoint}
+use Rattle.machine.specs.Wire.{wrongStores}
+use Rattle.machine.specs.Process.{responded}
+use Rattle.machine.specs.Receive.{raised}
+use Rattle.machine.specs.declared.Ticket.{Ticket}
+use Rattle.machine.specs.declared.Taking.{Taking}
+use Rattle.machine.specs.declared.Taking.the-variants.{Untaken, Taken}
+use Rattle.machine.specs.declared.Request.{Request}
+use Rattle.machine.specs.declared.Phase.{Phase}
+use Rattle.machine.specs.declared.Phase.the-variants.{Idle, Receive, Process, Answered, Transmit}
+use Rattle.machine.specs.declared.Endpoint.{Endpoint}
+use Rattle.machine.specs.declared.Done.{Done}
+use Rattle.machine.specs.declared.TakeAnswer.{TakeAnswer}
+use Rattle.machine.specs.declared.TakeAnswer.the-variants.{Refused, Given}
+use Rattle.machine.specs.declared.TakeDone.{TakeDone}
+
+abbrev pub isSlot : ℕ → Bool
+isSlot i = ltb i 2
+
+-- ---- taking: 30 slot above 1; 31 not in Process, or its response is there; 33 taken already. Otherwise the ticket.
+
+abbrev pub takeEnded : TakeAnswer → Endpoint → TakeDone
+takeEnded a e = record { answer = a; endpoint = e }
+
+abbrev pub takenRequest : Request → Request
+takenRequest r = record { source = r .source; tag = r .tag; kind = r .kind; length = r .length; taking = Taken }
+
+abbrev pub takenRow : Endpoint → ℕ → Request → Taking → TakeDone
+takenRow e i r Untaken = takeEnded (Given (slotAt e i .ticket)) (withSlot e i (withPhase (slotAt e i) (Process (takenRequest r))))
+takenRow e i r Taken = takeEnded (Refused taken-already) e
+
+abbrev pub takenFrom : Endpoint → ℕ → Phase → TakeDone
+takenFrom e i Idle = takeEnded (Refused no-command) e
+takenFrom e i (Receive a) = takeEnded (Refused no-command) e
+takenFrom e i (Process r) = takenRow e i r (r .taking)
+takenFrom e i (Answered r) = takeEnded (Refused no-command) e
+takenFrom e i (Transmit r) = takeEnded (Refused no-command) e
+
+unfoldable pub taken : Endpoint → ℕ → TakeDone
+taken e i =
+    if not (isSlot i) then takeEnded (Refused no-such-slot) e
+    else takenFrom e i (slotAt e i .phase)
+
+-- document 01's number for what taking answers
+abbrev pub takeNumber : TakeAnswer → ℕ
+takeNumber (Refused n) = n
+takeNumber (Given t) = done
+
+-- ---- reading: the request as a part of the slot's store, check included; empty if the slot is above 1, a store has another length, or
+-- no taken command there awaits completion
+
+abbrev pub takenPart : List ℕ → Request → Taking → List ℕ
+takenPart store r Untaken = []
+takenPart store r Taken = take (r .length) store
+
+abbrev pub partOf : List ℕ → Phase → List ℕ
+partOf store Idle = []
+partOf store (Receive a) = []
+partOf store (Process r) = takenPart store r (r .taking)
+partOf store (Answered r) = []
+partOf store (Transmit r) = []
+
+unfoldable pub part : World → ℕ → List ℕ
+part w i =
+    if wrongStores w then []
+    else if not (isSlot i) then []
+    else partOf (storeAt w i) (slotAt (w .endpoint) i .phase)
+
+-- ---- completing: 30; 31; 32 ticket not the slot's present one; 34 not taken; 35 body not 4 to 4,216 bytes. In that order, else 0.
+
+abbrev pub isBody : List ℕ → Bool
+isBody body = not (ltb (length body) 4 || ltb 4216 (length body))
+
+abbrev pub completedRow : World → ℕ → Request → List ℕ → Taking → Outcome
+completedRow w i r body Untaken = outcome not-taken w
+completedRow w i r body Taken =
+    if not (isBody body) then outcome wrong-body-size w
+    else outcome done (responded w i r body)
+
+abbrev pub completedIn : World → ℕ → Ticket → List ℕ → Phase → Outcome
+completedIn w i t body Idle = outcome no-command w
+completedIn w i t body (Receive a) = outcome no-command w
+completedIn w i t body (Process r) =
+    if not (eqb (t .0) (slotAt (w .endpoint) i .ticket .0)) then outcome other-ticket w
+    else completedRow w i r body (r .taking)
+completedIn w i t body (Answered r) = outcome no-command w
+completedIn w i t body (Transmit r) = outcome no-command w
+
+unfoldable pub completed : World → ℕ → Ticket → List ℕ → Outcome
+unfolding responded
+completed w i t body =
+    if wrongStores w then outcome wrong-stores w
+    else if not (isSlot i) then outcome no-such-slot w
+    else completedIn w i t body (slotAt (w .endpoint) i .phase)
+
+-- ---- timeout: 30; 37 slot not in Receive or its flag is set; else Idle, bit 5, answer 0
+
+abbrev pub isReceive : Phase → Bool
+isReceive Idle = false
+isReceive (Receive a) = true
+isReceive (Process r) = false
+isReceive (Answered r) = false
+isReceive (Transmit r) = false
+
+unfoldable pub timedOut : Endpoint → ℕ → Done
+timedOut e i =
+    if not (isSlot i) then ended no-such-slot e
+    else if not (isReceive (slotAt e i .phase)) || slotAt e i .paused then ended not-gathering e
+    else ended done (raised (withSlot e i (idled (slotAt e i))) (2 ^ 5))
+
+-- ---- reset and setup
+
+-- all zero but the EID, the flags and the ticket counts; slot 0's turn, last packet counted as not control
+abbrev pub started : ℕ → ℕ → Ticket → Ticket → Endpoint
+started eid flags t0 t1 = endpoint eid (fresh t0 ∷ fresh t1 ∷ []) flags (replicate 12 0) false 0 0 0 false
+
+-- both slots Idle, bits 3 to 12 cleared, control reply gone, bit 14 set, slot 0's turn, last packet counted as not control, ticket counts
+-- kept; answer 0
+unfoldable pub wasReset : Endpoint → Done
+wasReset e = ended done (started (e .eid) (2 ^ 14) (slotAt e 0 .ticket) (slotAt e 1 .ticket))
+
+abbrev pub initial : ℕ → Endpoint
+initial eid = started eid 0 (ticket 0) (ticket 0)
+
+-- EID 8 to 254, else 38, and the state beside that answer is the one for EID 8
+unfoldable pub wasSetUp : ℕ → Done
+wasSetUp eid =
+    if ltb eid 8 || ltb 254 eid then ended wrong-eid (initial 8)
+    else ended done (initial eid)

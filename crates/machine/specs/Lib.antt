@@ -1,0 +1,11 @@
+pub mod Answers
+pub mod State
+pub mod Wire
+pub mod Receive
+pub mod Process
+pub mod Control
+pub mod Finish
+pub mod Poll
+pub mod Valid
+pub mod Calls
+pub mod Examples

@@ -1,0 +1,123 @@
+-- "Polling".
+-- Assumes nothing.
+use Prim.Native.Nat.{ℕ, suc, _+_, _-_, _*_}
+use mathlib.Core.Bool.{Bool, true, false, not, _&&_, _||_}
+use mathlib.Core.List.{List, [], _∷_, _++_}
+use lib.Dec.{eqb, ltb}
+use lib.ListN.{length, take, drop}
+use Rattle.lent.specs.Choice.{if_then_else_}
+use Rattle.mctp.specs.Cut.{packets, packet}
+use Rattle.machine.specs.Answers.{nothing-to-send, packet-sent, short-buffer, wrong-stores}
+use Rattle.machine.specs.State.{World, slotAt, storeAt, withSlot, withPhase, idled, replySent, packetSent}
+use Rattle.machine.specs.Wire.{unit, packet-room, routeTo, wrongStores}
+use Rattle.machine.specs.declared.Response.{Response}
+use Rattle.machine.specs.declared.Phase.{Phase}
+use Rattle.machine.specs.declared.Phase.the-variants.{Idle, Receive, Process, Answered, Transmit}
+use Rattle.machine.specs.declared.Slot.{Slot}
+use Rattle.machine.specs.declared.Endpoint.{Endpoint}
+use Rattle.machine.specs.declared.PollAnswer.{PollAnswer}
+use Rattle.machine.specs.declared.PollAnswer.the-variants.{Refused, Nothing as Silent, Packet}
+use Rattle.machine.specs.declared.Ready.{Ready}
+use Rattle.machine.specs.declared.Ready.the-variants.{Nothing, From}
+
+-- what a poll answers, the state that it leaves, and the lent buffer; it writes no store
+pub record Polled : Type 0 where
+  pub answer : PollAnswer
+  pub endpoint : Endpoint
+  pub buffer : List ℕ
+
+abbrev pub polledTo : PollAnswer → Endpoint → List ℕ → Polled
+polledTo a e buffer = record { answer = a; endpoint = e; buffer = buffer }
+
+-- document 01's number for what polling answers
+abbrev pub pollNumber : PollAnswer → ℕ
+pollNumber (Refused n) = n
+pollNumber Silent = nothing-to-send
+pollNumber (Packet n) = packet-sent
+
+-- ---- "A command packet is ready if a slot is in Transmit and neither pause flag is set."
+
+-- slot i's response where it is in Transmit, else what the other choice gives
+abbrev pub sendingOr : ℕ → Phase → Ready → Ready
+sendingOr i Idle other = other
+sendingOr i (Receive a) other = other
+sendingOr i (Process r) other = other
+sendingOr i (Answered r) other = other
+sendingOr i (Transmit r) other = From i r
+
+abbrev pub begunOr : ℕ → Phase → Ready → Ready
+begunOr i Idle other = other
+begunOr i (Receive a) other = other
+begunOr i (Process r) other = other
+begunOr i (Answered r) other = other
+begunOr i (Transmit r) other = if ltb 0 (r .sent) then From i r else other
+
+abbrev pub otherSlot : ℕ → ℕ
+otherSlot i = if eqb i 0 then 1 else 0
+
+-- "A begun response goes on to its end; with none begun, the slot other than the one that last began goes first if in Transmit."
+unfoldable pub chosen : Endpoint → Ready
+chosen e =
+    begunOr 0 (slotAt e 0 .phase)
+    (begunOr 1 (slotAt e 1 .phase)
+    (sendingOr (e .turn) (slotAt e (e .turn) .phase)
+    (sendingOr (otherSlot (e .turn)) (slotAt e (otherSlot (e .turn)) .phase)
+    Nothing)))
+
+unfoldable pub ready : Endpoint → Ready
+unfolding chosen
+ready e = if slotAt e 0 .paused || slotAt e 1 .paused then Nothing else chosen e
+
+-- ---- what goes
+
+-- "Bytes behind the packet stay."
+abbrev pub sent : List ℕ → Endpoint → List ℕ → Polled
+sent bytes e buffer = polledTo (Packet (length bytes)) e (bytes ++ drop (length bytes) buffer)
+
+abbrev pub controlPacket : Endpoint → List ℕ
+controlPacket e = packet unit (routeTo e (e .«reply_to») (e .«reply_tag»)) (e .reply) 0
+
+unfoldable pub sentControl : Endpoint → List ℕ → Polled
+sentControl e buffer = sent (controlPacket e) (replySent e) buffer
+
+-- packet number `sent` of the response at the front of the slot's store
+abbrev pub commandPacket : World → ℕ → Response → List ℕ
+commandPacket w i r = packet unit (routeTo (w .endpoint) (r .requester) (r .tag)) (take (r .length) (storeAt w i)) (r .sent)
+
+-- the packet that goes next is the response's last
+abbrev pub isLast : Response → Bool
+isLast r = eqb (r .sent + 1) (packets unit (r .length))
+
+-- one more of its packets went
+abbrev pub advanced : Response → Response
+advanced r = record { requester = r .requester; tag = r .tag; length = r .length; sent = r .sent + 1 }
+
+-- "After its last packet a slot is Idle."
+abbrev pub afterPacket : Slot → Response → Slot
+afterPacket s r =
+    if isLast r then idled s
+    else withPhase s (Transmit (advanced r))
+
+-- slot i is then the one that last began
+unfoldable pub sentCommand : World → ℕ → Response → List ℕ → Polled
+sentCommand w i r buffer =
+    sent (commandPacket w i r)
+    (packetSent (withSlot (w .endpoint) i (afterPacket (slotAt (w .endpoint) i) r)) (otherSlot i))
+    buffer
+
+-- "If a control reply waits and either the last packet handed out was not control or no command packet is ready, it goes. Otherwise a
+-- ready command packet goes, else answer 0."
+abbrev pub polledBy : World → List ℕ → Ready → Polled
+polledBy w buffer Nothing =
+    if w .endpoint .«reply_waits» then sentControl (w .endpoint) buffer
+    else polledTo Silent (w .endpoint) buffer
+polledBy w buffer (From i r) =
+    if w .endpoint .«reply_waits» && not (w .endpoint .«last_control») then sentControl (w .endpoint) buffer
+    else sentCommand w i r buffer
+
+unfoldable pub polled : World → List ℕ → Polled
+unfolding ready sentControl sentCommand
+polled w buffer =
+    if wrongStores w then polledTo (Refused wrong-stores) (w .endpoint) buffer
+    else if ltb (length buffer) packet-room then polledTo (Refused short-buffer) (w .endpoint) buffer
+    else polledBy w buffer (ready (w .endpoint))

@@ -1,0 +1,59 @@
+-- "Bytes on the wire": sizes, directions, and the fields of a control primitive. The packet header is defined in `mctp`, the message
+-- header and the check in `nvme_mi`.
+-- Assumes nothing.
+use Prim.Native.Nat.{ℕ}
+use mathlib.Core.Bool.{Bool, true, false, not, _||_}
+use mathlib.Core.List.{List}
+use lib.Dec.{eqb}
+use lib.ListN.{length}
+use Rattle.lent.specs.Bytes.{byteAt, isSet}
+use Rattle.mctp.specs.declared.Route.{Route}
+use Rattle.machine.specs.State.{World}
+use Rattle.machine.specs.declared.Endpoint.{Endpoint}
+
+-- the largest payload of a packet
+abbrev pub unit : ℕ
+unit = 64
+
+-- each slot's store, and the longest message
+abbrev pub store-size : ℕ
+store-size = 4224
+
+-- the shortest message
+abbrev pub smallest : ℕ
+smallest = 8
+
+-- a control request, header to check
+abbrev pub control-size : ℕ
+control-size = 12
+
+-- a buffer that takes every packet
+abbrev pub packet-room : ℕ
+packet-room = 68
+
+-- TO of the packets that come in, and of those that go out
+abbrev pub inward : Bool
+inward = true
+
+abbrev pub outward : Bool
+outward = false
+
+-- source ours, destination the requester, TO 0, the request's tag
+abbrev pub routeTo : Endpoint → ℕ → ℕ → Route
+routeTo e requester tag = record { destination = requester; source = e .eid; to = outward; tag = tag }
+
+-- one of the lent stores has another length
+abbrev pub wrongStores : World → Bool
+wrongStores w = not (eqb (length (w .store0)) store-size) || not (eqb (length (w .store1)) store-size)
+
+-- ---- a control request: header, opcode, TAG, CPSP (2), check
+
+abbrev pub opcodeOf : List ℕ → ℕ
+opcodeOf message = byteAt message 4
+
+abbrev pub tagOf : List ℕ → ℕ
+tagOf message = byteAt message 5
+
+-- bit 0 of CPSP
+abbrev pub clearsFlags : List ℕ → Bool
+clearsFlags message = isSet (byteAt message 6) 0

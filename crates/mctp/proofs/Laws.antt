@@ -1,0 +1,128 @@
+-- Laws of a message's packets: how many there are and which is the last, what each carries, and that each is read as it was cut.
+-- Assumes nothing.
+use Prim.Native.Nat.{ℕ, min, zero, suc, _+_, _-_, _*_, _/_, _%_, _≤_, _<_}
+use native.Mathlib.Nat.{le-div-iff-mul-le, div-lt-iff-lt-mul, lt-div-mul-add, mod-lt, mul-zero}
+use native.Mathlib.Numerals.{add-one}
+use native.Mathlib.Omega.{arith}
+use mathlib.Core.Path.{_≡_, refl, sym}
+use mathlib.Core.Logic.{_↔_}
+use mathlib.Core.Bool.{Bool, true, false}
+use mathlib.Core.List.{List, [], _++_}
+use lib.Dec.{eqb, leb, lit<}
+use lib.ListN.{length, take, length-take, length-drop}
+use lib.Seq.{take-add}
+use borrow.Author.Tests.{leb-true, eqb-true, le-leb, le-ltb, eq-eqb}
+use Rattle.mctp.specs.Header.{bit, same, headerBytes, readHeader}
+use Rattle.mctp.specs.Cut.{packets, payload, packet}
+use Rattle.mctp.specs.declared.Header.{Header}
+use Rattle.mctp.specs.declared.Route.{Route}
+use Rattle.mctp.specs.declared.Read.the-variants.{Packet}
+
+-- ---- how many packets
+
+-- two tests of which each implies the other
+pub same-test : (x y : Bool) → (x ≡ true → y ≡ true) → (y ≡ true → x ≡ true) → x ≡ y
+same-test true y p q = sym (p refl)
+same-test false true p q = q refl
+same-test false false p q = refl
+
+-- packet k is one of the message's
+pub packets-bounds : (unit n k : ℕ) → 0 < unit → (k < packets unit n) ↔ (unit * k < n)
+packets-bounds unit n k pos =
+    let counts = le-div-iff-mul-le {k = unit} {x = suc k} {y = n + (unit - 1)} pos in
+    (λ h. omega (arith, counts .0 h), λ h. counts .1 (omega arith))
+
+-- as few as carry the message
+pub packets-most : (unit n m : ℕ) → 0 < unit → n ≤ unit * m → packets unit n ≤ m
+packets-most unit n m pos h =
+    let below : packets unit n < suc m = div-lt-iff-lt-mul {k = unit} pos .1 (omega arith) in
+    omega arith
+
+-- and enough to carry it
+pub packets-cover : (unit n : ℕ) → 0 < unit → n ≤ unit * packets unit n
+packets-cover unit n pos = omega (arith, lt-div-mul-add {a = n + (unit - 1)} pos)
+
+-- the last packet is the one that reaches the end
+pub last-packet : (unit n k : ℕ) → 0 < unit → unit * k < n → eqb (k + 1) (packets unit n) ≡ leb n (unit * k + unit)
+last-packet unit n k pos inside =
+    same-test _ _
+    (λ h. let all : n ≤ unit * (k + 1) = rw (eqb-true (k + 1) (packets unit n) h) (packets-cover unit n pos) in le-leb n (unit * k + unit) (omega arith))
+    (λ h. eq-eqb (k + 1) (packets unit n)
+    (omega (arith, packets-bounds unit n k pos .1 inside, packets-most unit n (k + 1) pos (omega (arith, leb-true)))))
+
+-- the same, of what is left of the message
+pub last-left : (unit n k : ℕ) → 0 < unit → unit * k < n → eqb (k + 1) (packets unit n) ≡ leb (n - unit * k) unit
+last-left unit n k pos inside =
+    rw (last-packet unit n k pos inside)
+    (same-test _ _ (λ h. le-leb (n - unit * k) unit (omega (arith, leb-true))) (λ h. le-leb n (unit * k + unit) (omega (arith, leb-true))))
+
+-- ---- what each carries
+
+pub payload-length : (unit : ℕ) (message : List ℕ) (k : ℕ) → length (payload unit message k) ≡ min unit (length message - unit * k)
+payload-length unit message k = simp (length-take, length-drop)
+
+pub payload-next : (unit : ℕ) (message : List ℕ) (k : ℕ) → take (unit * k) message ++ payload unit message k ≡ take (unit * (k + 1)) message
+payload-next unit message k =
+    let e : unit * (k + 1) ≡ unit * k + unit = omega arith in
+    rw (e, take-add (unit * k) unit message)
+
+abbrev pub payloads : ℕ → List ℕ → ℕ → List ℕ
+payloads unit message zero = []
+payloads unit message (suc k) = payloads unit message k ++ payload unit message k
+
+pub payloads-join : (unit : ℕ) (message : List ℕ) (k : ℕ) → payloads unit message k ≡ take (unit * k) message
+payloads-join unit message zero = rw mul-zero
+payloads-join unit message (suc k) = rw (payloads-join unit message k, payload-next unit message k, add-one)
+
+-- ---- how each is read
+
+-- byte 3 of a header taken apart
+bits : (x y s z t : ℕ) → x ≤ 1 → y ≤ 1 → s < 4 → z ≤ 1 → t < 8
+    → let b = x * 128 + y * 64 + s * 16 + z * 8 + t in
+    (b / 128 % 2 ≡ x) × (b / 64 % 2 ≡ y) × (b / 16 % 4 ≡ s) × (b / 8 % 2 ≡ z) × (b % 8 ≡ t)
+bits x y s z t hx hy hs hz ht = omega arith
+
+bit-times : (b : Bool) (v : ℕ) → bit b v ≡ bit b 1 * v
+bit-times true v = omega arith
+bit-times false v = omega arith
+
+bit-below : (b : Bool) → bit b 1 ≤ 1
+bit-below true = omega arith
+bit-below false = omega arith
+
+bit-set : (b : Bool) → eqb (bit b 1) 1 ≡ b
+bit-set true = refl
+bit-set false = refl
+
+same-self : (b : Bool) → same b b ≡ true
+same-self true = refl
+same-self false = refl
+
+-- the header of packet k, as a receiver reads it
+abbrev pub headerOf : ℕ → Route → List ℕ → ℕ → Header
+headerOf unit route message k =
+    record {
+      source = route .source;
+      som = eqb k 0;
+      eom = eqb (k + 1) (packets unit (length message));
+      sequence = k % 4;
+      tag = route .tag % 8;
+    }
+
+-- four header bytes, of which byte 3 is made of these bits, and a payload of 1 to `unit` bytes
+read-bytes : (destination source unit : ℕ) (som eom to : Bool) (sequence tag : ℕ) (p : List ℕ) → 0 < length p → length p ≤ unit
+    → readHeader destination unit to (headerBytes destination source som eom sequence to tag ++ p)
+    ≡ Packet (record { source = source; som = som; eom = eom; sequence = sequence % 4; tag = tag % 8 })
+unfolding readHeader
+read-bytes d s unit som eom to sequence tag p some fits =
+    let e = bits (bit som 1) (bit eom 1) (sequence % 4) (bit to 1) (tag % 8) (bit-below som) (bit-below eom) (mod-lt sequence (lit< tt)) (bit-below to) (mod-lt tag (lit< tt)) in
+    let n = suc (suc (suc (suc (length p)))) in
+    rw (bit-times som 128, bit-times eom 64, bit-times to 8, le-ltb n 5 (omega arith), le-ltb (unit + 4) n (omega arith), eq-eqb d d refl, e .0, e .1, e .2, e .3, e .4, bit-set som, bit-set eom, bit-set to, same-self to)
+
+pub read-of-cut : (unit : ℕ) (route : Route) (message : List ℕ) (k : ℕ) → 0 < unit → unit * k < length message
+    → readHeader (route .destination) unit (route .to) (packet unit route message k) ≡ Packet (headerOf unit route message k)
+unfolding packet
+read-of-cut unit route message k pos inside =
+    let n = payload-length unit message k in
+    read-bytes (route .destination) (route .source) unit (eqb k 0) (eqb (k + 1) (packets unit (length message))) (route .to) k (route .tag)
+    (payload unit message k) (omega arith) (omega arith)

@@ -1,0 +1,143 @@
+// MCTP packets (DSP0236): the header read and written, a message cut into packets, packets joined to a message.
+// The unit, the largest payload of a packet, and the direction, bit TO, are arguments throughout.
+ghost use mathlib.Core.Path.{_≡_};
+ghost use mathlib.Core.List.{_++_};
+ghost use Prim.Native.Nat.{min, _+_, _*_, _≤_, _<_};
+ghost use lib.ListN.{length, drop};
+ghost use Rattle.mctp.specs.Header.{readHeader, headerBytes, bit as Header·bit};
+ghost use Rattle.mctp.specs.Cut.{packets, packet};
+ghost use Rattle.mctp.specs.Gather.{isCut, joinRefusal};
+
+// The fields of a packet's header that a receiver uses.
+pub struct Header {
+    pub source: u8,
+    pub som: bool,
+    pub eom: bool,
+    pub sequence: u8,
+    pub tag: u8,
+}
+
+// A packet is either refused by number or read into its fields.
+pub enum Read {
+    Refused(u8),
+    Packet(Header),
+}
+
+// What all packets of a message have in common: destination and source EID, bit TO, message tag.
+pub struct Route {
+    pub destination: u8,
+    pub source: u8,
+    pub to: bool,
+    pub tag: u8,
+}
+
+// Reads the header of a packet for the endpoint `eid`, that carries at most `unit` bytes and whose bit TO is `to`.
+pub fn read_header(eid: u8, unit: usize, to: bool, packet: &[u8]) -> Read
+    ensures { λ r. ⌜ r ≡ readHeader eid unit to (now (packet .entry)) ⌝ }
+{
+    if packet.len() < 5 {
+        return Read::Refused(10);
+    }
+    if packet.len() - 4 > unit {
+        return Read::Refused(11);
+    }
+    if packet[0] % 16 != 1 {
+        return Read::Refused(12);
+    }
+    if packet[1] != eid {
+        return Read::Refused(13);
+    }
+    let bits = packet[3];
+    if (bits / 8 % 2 == 1) != to {
+        return Read::Refused(14);
+    }
+    Read::Packet(Header {
+        source: packet[2],
+        som: bits / 128 % 2 == 1,
+        eom: bits / 64 % 2 == 1,
+        sequence: bits / 16 % 4,
+        tag: bits % 8,
+    })
+}
+
+// EOM 0, and the payload of n bytes is not a whole unit.
+pub fn is_cut(unit: usize, header: Header, n: usize) -> bool
+    ensures { λ r. ⌜ r ≡ isCut unit header n ⌝ }
+{
+    if header.eom { false } else { n != unit }
+}
+
+// Why a later packet with n payload bytes does not join an assembly, whose last packet had this sequence number and of which
+// `gathered` bytes are there; 0 where it joins.
+pub fn join_refusal(
+    unit: usize,
+    limit: usize,
+    sequence: u8,
+    gathered: usize,
+    header: Header,
+    n: usize,
+) -> u8
+    requires { ⌜ gathered ≤ limit ⌝ }
+    ensures { λ r. ⌜ r ≡ joinRefusal unit limit sequence gathered header n ⌝ }
+{
+    if header.sequence != (sequence % 4 + 1) % 4 {
+        return 22;
+    }
+    if is_cut(unit, header, n) {
+        return 16;
+    }
+    if n > limit - gathered {
+        return 23;
+    }
+    0
+}
+
+// How many packets a message of n bytes is cut into.
+pub fn packet_count(unit: usize, n: usize) -> usize
+    requires { ⌜ 0 < unit ⌝ }
+    ensures { λ r. ⌜ r ≡ packets unit n ⌝ }
+{
+    if n == 0 { 0 } else { (n - 1) / unit + 1 }
+}
+
+fn bit(b: bool, value: u8) -> u8
+    ensures { λ r. ⌜ (r ≡ Header·bit b value) × (r ≤ value) ⌝ }
+{
+    if b { value } else { 0 }
+}
+
+fn smaller(a: usize, b: usize) -> usize
+    ensures { λ r. ⌜ r ≡ min a b ⌝ }
+{
+    if a <= b { a } else { b }
+}
+
+// Writes the four bytes of a header to the front of `out`. The bytes behind them stay.
+fn write_header(route: Route, som: bool, eom: bool, sequence: usize, out: &mut [u8])
+    requires { ⌜ 4 ≤ length (now out) ⌝ }
+    ensures { λ _. ⌜ now (out .exit) ≡ headerBytes (route .destination) (route .source) som eom sequence (route .to) (route .tag) ++ drop 4 (now (out .entry)) ⌝ }
+{
+    out[0] = 1;
+    out[1] = route.destination;
+    out[2] = route.source;
+    out[3] = bit(som, 128)
+        + bit(eom, 64)
+        + (sequence % 4) as u8 * 16
+        + bit(route.to, 8)
+        + route.tag % 8;
+}
+
+// Writes packet k of a message to the front of `out`, and returns the packet's length. Bytes behind the packet stay.
+pub fn write_packet(unit: usize, route: Route, message: &[u8], k: usize, out: &mut [u8]) -> usize
+    requires { ⌜ (0 < unit) × (unit * k < length (now message)) × (unit + 4 ≤ length (now out)) ⌝ }
+    ensures { λ r. ⌜ r ≡ length (packet unit route (now (message .entry)) k) ⌝ }
+    ensures { λ r. ⌜ now (out .exit) ≡ packet unit route (now (message .entry)) k ++ drop r (now (out .entry)) ⌝ }
+{
+    let at = unit * k;
+    let left = message.len() - at;
+    let n = smaller(left, unit);
+    write_header(route, k == 0, left <= unit, k, out);
+    let end = at + n;
+    lent::put(out, 4, &message[at..end]);
+    4 + n
+}
