@@ -15,10 +15,7 @@ use Rattle.machine.specs.declared.Phase.{Phase}
 use Rattle.machine.specs.declared.Phase.the-variants.{Idle, Receive, Process, Answered, Transmit}
 use Rattle.machine.specs.declared.Slot.{Slot}
 use Rattle.machine.specs.declared.Endpoint.{Endpoint}
-use Rattle.machine.proofs.Slots.{false-true, and-both}
-
-both-and : (a b : Bool) → a ≡ true → b ≡ true → (a && b) ≡ true
-both-and a b p q = rw (p, q) refl
+use Rattle.machine.proofs.Slots.{false-true, and-both, both-and}
 
 within : (low high n : ℕ) → between low high n ≡ true → (low ≤ n) × (n ≤ high)
 within low high n h = let k = and-both (leb low n) (leb n high) h in (leb-true low n (k .0), leb-true n high (k .1))

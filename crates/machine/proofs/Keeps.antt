@@ -13,6 +13,7 @@ use Rattle.lent.specs.Choice.{if_then_else_}
 use Rattle.lent.specs.Bytes.{put}
 use Rattle.lent.proofs.Choice.{if-ind, if-second, or-left, or-right}
 use Rattle.lent.proofs.Stores.{length-put}
+use Rattle.mctp.specs.Header.{fields, payloadOf}
 use Rattle.mctp.specs.declared.Header.{Header}
 use Rattle.mctp.specs.Cut.{packets}
 use Rattle.mctp.proofs.Laws.{packets-bounds}
@@ -47,7 +48,7 @@ use Rattle.machine.specs.declared.Acted.{Acted}
 use Rattle.machine.specs.declared.Ready.{Ready}
 use Rattle.machine.specs.declared.Ready.the-variants.{Nothing, From}
 use Rattle.machine.proofs.Slots.{other-most, false-true, slot-facts, facts-at, apart-left, apart-new-left, apart-new-right}
-use Rattle.machine.proofs.Receiving.{Kept, csi-most, received-kept}
+use Rattle.machine.proofs.Receiving.{Joining, filled, grown, Walk, csi-most, walked}
 
 -- ---- flags
 
@@ -366,23 +367,32 @@ awaited-valid {e} i a is free lo hi v =
     let s = withPhase (slotAt e i) (Receive a) in
     kept-slot i is v s (record { phase-facts = (lo, hi); begun-turn = λ h. cc }) (beside-new i s (slotAt e (otherSlot i)) a refl free)
 
-sound-kept : Kept Sound
+abbrev After : Outcome → Type 0
+After o = Sound (o .world)
+
+sound-walk : (eid : ℕ) (packet : List ℕ) → Walk eid packet Sound After
 unfolding refused refusedBusy
-sound-kept =
+sound-walk eid packet =
     record {
       sound = λ w s. s;
-      flagged = λ w n s. sound-endpoint s (raised-valid (flagOf n) (flag-valid n) (s .state));
-      busied = λ w i is s. sound-endpoint s (busied-valid i is true (s .state));
-      finished = λ w source tag s. sound-endpoint s (end-valid source tag (s .state));
-      fallen = λ w i is _ s. sound-endpoint s (idled-valid i is (s .state));
-      stored = λ w i at payload is _ hi s. sound-store i _ s (put-store i at payload hi s);
-      awaiting = λ w i a is _ free lo hi s. sound-endpoint s (awaited-valid i a is free lo hi (s .state));
-      entering = λ w i a is _ lo hi s. entered-sound i a _ is lo hi s;
-      controlling = λ w h m s. sound-endpoint s (controlled-valid h (messageHeader m) m (csi-most m) (s .state));
+      refusing = λ w n _ s. refuse w n s;
+      busying = λ w i is s. sound-endpoint s (busied-valid i is true (s .state));
+      dropping = λ w i n _ is _ s. refuse (dropped w i) n (sound-endpoint s (idled-valid i is (s .state)));
+      failing = λ w i at j s. refuse _ 19 (let f = fill w i at j s in sound-endpoint f (idled-valid i (j .slot-is) (f .state)));
+      gaining = λ w i at j lo s. sound-endpoint (fill w i at j s) (awaited-valid i (grown eid packet at) (j .slot-is) (j .alone) lo (j .fits) (s .state));
+      entering = λ w i at j lo s. entered-sound i (grown eid packet at) _ (j .slot-is) lo (j .fits) (fill w i at j s);
+      controlling = λ w c s. sound-endpoint s (controlled-valid (fields packet) (messageHeader (payloadOf packet)) (payloadOf packet) (csi-most (payloadOf packet)) (s .state));
     }
+  where
+    refuse : (w : World) (n : ℕ) → Sound w → After (refused w n)
+    refuse w n s = unfold refused in (sound-endpoint s (raised-valid (flagOf n) (flag-valid n) (s .state)))
+    fill : (w : World) (i at : ℕ) → Joining eid packet w i at → Sound w → Sound (filled eid packet w i at)
+    fill w i at j s = sound-store i _ s (put-store i at (payloadOf packet) (j .fits) s)
 
-pub received-sound : (w : World) (packet : List ℕ) → Sound w → Sound (received w packet .world)
-received-sound w packet s = received-kept Sound sound-kept w packet s
+pub received-sound : (w : World) (packet : List ℕ) → Sound w → After (received w packet)
+received-sound w packet s =
+    walked w packet Sound After (sound-walk (w .endpoint .eid) packet) s s
+    (λ _. sound-endpoint s (end-valid (fields packet .source) (fields packet .tag) (s .state)))
 
 -- stores that are not refused have their length
 pub sizes : (w : World) → wrongStores w ≡ false → IsStore (w .store0) × IsStore (w .store1)
@@ -407,7 +417,7 @@ received-valid w packet v = go (wrongStores w) refl
 
 -- ---- taking
 
-slot-most : (i : ℕ) → not (isSlot i) ≡ false → i ≤ 1
+pub slot-most : (i : ℕ) → not (isSlot i) ≡ false → i ≤ 1
 slot-most i h = omega (arith, ltb-true i 2 (not-false (isSlot i) h))
 
 abbrev TakeLeft : TakeDone → Type 0

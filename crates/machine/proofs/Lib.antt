@@ -2,3 +2,10 @@ pub mod Slots
 pub mod Receiving
 pub mod Keeps
 pub mod Invariant
+pub mod Places
+pub mod Fits
+pub mod Received
+pub mod Finished
+pub mod Polling
+pub mod Histories
+pub mod Delivery

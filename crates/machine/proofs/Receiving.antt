@@ -1,4 +1,4 @@
--- Every way through "Receiving", walked once: what each of its steps keeps, a received packet keeps.
+-- Every way through "Receiving", walked once: a property that each of its steps keeps or leads to, a received packet has.
 -- Assumes nothing.
 use Prim.Native.Nat.{ℕ, zero, suc, _+_, _-_, _*_, _%_, _^_, _≤_, _<_}
 use mathlib.Core.Path.{_≡_, refl, sym, ap, _∙_}
@@ -10,9 +10,9 @@ use lib.Dec.{eqb, leb, ltb}
 use lib.ListN.{length, take, drop, length-drop}
 use borrow.Author.Tests.{ltb-false, ltb-true, eqb-true, not-true, not-false}
 use Rattle.lent.specs.Choice.{if_then_else_}
-use Rattle.lent.specs.Bytes.{byteAt, put}
+use Rattle.lent.specs.Bytes.{byteAt, isSet, put}
 use Rattle.lent.proofs.Choice.{if-ind, if-second, or-left, or-right}
-use Rattle.mctp.specs.Header.{readHeader, payloadOf}
+use Rattle.mctp.specs.Header.{readHeader, fields, same, payloadOf}
 use Rattle.mctp.specs.Gather.{isCut, joinRefusal, no-assembly, not-full}
 use Rattle.mctp.specs.declared.Header.{Header}
 use Rattle.mctp.specs.declared.Read.{Read}
@@ -20,42 +20,22 @@ use Rattle.mctp.specs.declared.Read.the-variants.{Refused, Packet}
 use Rattle.nvme_mi.specs.Message.{message-type, control, messageHeader}
 use Rattle.nvme_mi.specs.Check.{checkRight}
 use Rattle.nvme_mi.specs.declared.MessageHeader.{MessageHeader}
-use Rattle.machine.specs.Answers.{check-wrong, not-a-request, message-too-short, not-twelve}
+use Rattle.machine.specs.Answers.{more-to-come, command-complete, control-done, check-wrong, not-a-request, message-too-short, not-twelve}
 use Rattle.machine.specs.State.{World, Outcome, outcome, slotAt, storeAt, withStore, withEndpoint, onSlot, withPhase, withBusy, isIdle}
 use Rattle.machine.specs.Wire.{unit, store-size, smallest, control-size, inward, wrongStores}
 use Rattle.machine.specs.Process.{entered}
 use Rattle.machine.specs.Control.{controlled}
-use Rattle.machine.specs.Receive.{refused, refusedBusy, raised, flagOf, dropped, gathers, isFrom, endAssembly, holder, checked, joined, assembly, gathered, firstControl, firstCommand, firstMessage, first, laterAt, laterBy, later, receivedBy, received}
+use Rattle.machine.specs.Receive.{refused, refusedBusy, dropped, gathers, isFrom, endAssembly, holder, checked, joined, assembly, gathered, firstControl, firstCommand, firstMessage, first, laterAt, laterBy, later, receivedBy, received}
 use Rattle.machine.specs.Poll.{otherSlot}
-use Rattle.machine.specs.Valid.{Valid, Sound, PhaseFacts}
+use Rattle.machine.specs.Valid.{Sound, PhaseFacts}
+use Rattle.machine.specs.History.{hasSom}
 use Rattle.machine.specs.declared.Assembly.{Assembly}
 use Rattle.machine.specs.declared.Phase.{Phase}
 use Rattle.machine.specs.declared.Phase.the-variants.{Receive}
 use Rattle.machine.specs.declared.Endpoint.{Endpoint}
 use Rattle.machine.specs.declared.Holder.{Holder}
 use Rattle.machine.specs.declared.Holder.the-variants.{Nowhere, At}
-use Rattle.machine.proofs.Slots.{isEarly, idle-early, facts-at, alone-at, from-same, Holds, holder-at, ended-at, other-most}
-
--- A property of worlds that holds of sound ones alone, and that each step of Receiving keeps.
-pub record Kept (P : World → Type 0) : Type 0 where
-  pub sound : (w : World) → P w → Sound w
-  -- a refusal sets its flag
-  pub flagged : (w : World) (n : ℕ) → P w → P (refused w n .world)
-  pub busied : (w : World) (i : ℕ) → i ≤ 1 → P w → P (refusedBusy w i .world)
-  -- an assembly ends, its slot going to Idle
-  pub finished : (w : World) (source tag : ℕ) → P w → P (withEndpoint w (endAssembly (w .endpoint) source tag))
-  pub fallen : (w : World) (i : ℕ) → i ≤ 1 → isEarly (slotAt (w .endpoint) i .phase) ≡ true → P w → P (dropped w i)
-  -- a payload is stored for an early slot
-  pub stored : (w : World) (i at : ℕ) (payload : List ℕ) → i ≤ 1 → isEarly (slotAt (w .endpoint) i .phase) ≡ true
-      → at + length payload ≤ store-size → P w → P (withStore w i (put (storeAt w i) at payload))
-  -- and waits for more
-  pub awaiting : (w : World) (i : ℕ) (a : Assembly) → i ≤ 1 → isEarly (slotAt (w .endpoint) i .phase) ≡ true
-      → gathers (a .source) (a .tag) (slotAt (w .endpoint) (otherSlot i) .phase) ≡ false → unit ≤ a .length → a .length ≤ store-size → P w
-      → P (onSlot w i (withPhase (slotAt (w .endpoint) i) (Receive a)))
-  -- or the command is whole
-  pub entering : (w : World) (i : ℕ) (a : Assembly) → i ≤ 1 → isEarly (slotAt (w .endpoint) i .phase) ≡ true
-      → smallest ≤ a .length → a .length ≤ store-size → P w → P (entered w i a (messageHeader (take (a .length) (storeAt w i))))
-  pub controlling : (w : World) (h : Header) (m : List ℕ) → P w → P (withEndpoint w (controlled (w .endpoint) h (messageHeader m) m))
+use Rattle.machine.proofs.Slots.{false-true, isEarly, idle-early, facts-at, alone-at, from-same, Holds, holder-at, ended-at, other-most}
 
 -- ---- what the tests say of a payload
 
@@ -92,6 +72,54 @@ pub record Joins (h : Header) (gathered n : ℕ) : Type 0 where
   pub whole-unit : isCut unit h n ≡ false
   pub fits : gathered + n ≤ store-size
 
+-- a refusal's number
+abbrev Numbered : Read → Type 0
+Numbered (Refused n) = 3 ≤ n
+Numbered (Packet h) = Unit {0}
+
+numbered : (eid : ℕ) (packet : List ℕ) → Numbered (readHeader eid unit inward packet)
+unfolding readHeader
+numbered eid packet =
+    if-ind Numbered (ltb (length packet) 5) (λ _. omega arith)
+    (λ _.
+    if-ind Numbered (ltb (unit + 4) (length packet)) (λ _. omega arith)
+    (λ _.
+    if-ind Numbered (not (eqb (byteAt packet 0 % 16) 1)) (λ _. omega arith)
+    (λ _.
+    if-ind Numbered (not (eqb (byteAt packet 1) eid)) (λ _. omega arith)
+    (λ _. if-ind Numbered (not (same (isSet (byteAt packet 3) 3) inward)) (λ _. omega arith) (λ _. tt)))))
+
+read-number : (eid : ℕ) (packet : List ℕ) {n : ℕ} → readHeader eid unit inward packet ≡ Refused n → 3 ≤ n
+read-number eid packet {n} e = rw e at (numbered eid packet)
+
+-- what is known of a packet that is read
+pub record ReadSo (eid : ℕ) (packet : List ℕ) (h : Header) : Type 0 where
+  pub version : eqb (byteAt packet 0 % 16) 1 ≡ true
+  pub ours : eqb (byteAt packet 1) eid ≡ true
+  pub direction : isSet (byteAt packet 3) 3 ≡ true
+  pub fields-are : h ≡ fields packet
+
+pub read-facts : (eid : ℕ) (packet : List ℕ) {h : Header} → readHeader eid unit inward packet ≡ Packet h → ReadSo eid packet h
+unfolding readHeader
+read-facts eid packet {h} e =
+    let a = if-second (ltb (length packet) 5) refused-packet e in
+    let b = if-second (ltb (unit + 4) (length packet)) refused-packet (a .1) in
+    let c = if-second (not (eqb (byteAt packet 0 % 16) 1)) refused-packet (b .1) in
+    let d = if-second (not (eqb (byteAt packet 1) eid)) refused-packet (c .1) in
+    let f = if-second (not (same (isSet (byteAt packet 3) 3) inward)) refused-packet (d .1) in
+    record {
+      version = not-false (eqb (byteAt packet 0 % 16) 1) (c .0);
+      ours = not-false (eqb (byteAt packet 1) eid) (d .0);
+      direction = same-true (isSet (byteAt packet 3) 3) (not-false (same (isSet (byteAt packet 3) 3) inward) (f .0));
+      fields-are = packet-is (f .1);
+    }
+  where
+    same-true : (b : Bool) → same b true ≡ true → b ≡ true
+    same-true true q = refl
+    same-true false q = q
+    packet-is : Packet (fields packet) ≡ Packet h → h ≡ fields packet
+    packet-is q = cc
+
 not-zero : {A : Type 0} (n : ℕ) → suc n ≡ 0 → A
 not-zero n e = absurd (omega arith)
 
@@ -103,111 +131,205 @@ joins sequence gathered n h e =
     let c = if-second (ltb store-size (gathered + n)) (not-zero 22) (b .1) in
     record { whole-unit = b .0; fits = ltb-false store-size (gathered + n) (c .0) }
 
+abbrev Joined? : ℕ → Type 0
+Joined? x = eqb x 0 ≡ false → 3 ≤ x
+
+join-number : (sequence gathered n : ℕ) (h : Header) → Joined? (joinRefusal unit store-size sequence gathered h n)
+unfolding joinRefusal
+join-number sequence gathered n h =
+    if-ind Joined? (not (eqb (h .sequence) ((sequence + 1) % 4))) (λ _ _. omega arith)
+    (λ _.
+    if-ind Joined? (isCut unit h n) (λ _ _. omega arith)
+    (λ _. if-ind Joined? (ltb store-size (gathered + n)) (λ _ _. omega arith) (λ _ e. false-true (sym e))))
+
+pub right-stores : (w : World) → Sound w → wrongStores w ≡ false
+right-stores w s = rw (s .size0, s .size1) refl
+
 -- CSI is one bit
 pub csi-most : (m : List ℕ) → messageHeader m .csi ≤ 1
 csi-most m = omega (arith, mod-lt (byteAt m 1) (zero-lt-suc 1))
 
+-- ---- the steps, and what is known at each
+
+module _ (eid : ℕ) (packet : List ℕ) where
+  abbrev pub header : Header
+  header = fields packet
+
+  abbrev pub message : List ℕ
+  message = payloadOf packet
+
+  -- where the payload of a command's packet goes: at the start of the slot that CSI names, or behind the bytes of the assembly that it joins
+  pub data Origin (w : World) (i : ℕ) : ℕ → Type 0 where
+    opens : hasSom packet ≡ true → i ≡ byteAt message 1 % 2 → Origin w i 0
+    goes-on : hasSom packet ≡ false → (a : Assembly) → slotAt (w .endpoint) i .phase ≡ Receive a
+        → isFrom (header .source) (header .tag) a ≡ true → Origin w i (a .length)
+
+  -- a command's packet that is not refused before it is stored
+  pub record Joining (w : World) (i at : ℕ) : Type 0 where
+    pub slot-is : i ≤ 1
+    pub early : isEarly (slotAt (w .endpoint) i .phase) ≡ true
+    pub alone : gathers (header .source) (header .tag) (slotAt (w .endpoint) (otherSlot i) .phase) ≡ false
+    pub fits : at + length message ≤ store-size
+    pub origin : Origin w i at
+
+  -- the world with the payload stored, and the assembly with this packet
+  abbrev pub filled : World → ℕ → ℕ → World
+  filled w i at = withStore w i (put (storeAt w i) at message)
+
+  abbrev pub grown : ℕ → Assembly
+  grown at = assembly header (at + length message)
+
+  abbrev pub whole : World → ℕ → ℕ → List ℕ
+  whole w i at = take (at + length message) (storeAt (filled w i at) i)
+
+  -- a control primitive that came whole, with a right check
+  pub record Controls : Type 0 where
+    pub read-so : readHeader eid unit inward packet ≡ Packet header
+    pub som : hasSom packet ≡ true
+    pub eom : header .eom ≡ true
+    pub twelve : length message ≡ control-size
+    pub typed : byteAt message 0 ≡ message-type
+    pub request : messageHeader message .ror ≡ false
+    pub kind : messageHeader message .nmimt ≡ control
+    pub right : checkRight message ≡ true
+
+  -- P holds on the way, Q of what receiving answers and leaves
+  pub record Walk (P : World → Type 0) (Q : Outcome → Type 0) : Type 0 where
+    pub sound : (w : World) → P w → Sound w
+    -- a refusal's number is never that of an accepted packet
+    pub refusing : (w : World) (n : ℕ) → 3 ≤ n → P w → Q (refused w n)
+    pub busying : (w : World) (i : ℕ) → i ≤ 1 → P w → Q (refusedBusy w i)
+    -- and the slot goes to Idle
+    pub dropping : (w : World) (i n : ℕ) → 3 ≤ n → i ≤ 1 → isEarly (slotAt (w .endpoint) i .phase) ≡ true → P w → Q (refused (dropped w i) n)
+    pub failing : (w : World) (i at : ℕ) → Joining w i at → P w → Q (refused (dropped (filled w i at) i) check-wrong)
+    pub gaining : (w : World) (i at : ℕ) → Joining w i at → unit ≤ at + length message → P w
+        → Q (outcome more-to-come (onSlot (filled w i at) i (withPhase (slotAt (w .endpoint) i) (Receive (grown at)))))
+    pub entering : (w : World) (i at : ℕ) → Joining w i at → smallest ≤ at + length message → P w
+        → Q (outcome command-complete (entered (filled w i at) i (grown at) (messageHeader (whole w i at))))
+    pub controlling : (w : World) → Controls → P w → Q (outcome control-done (withEndpoint w (controlled (w .endpoint) header (messageHeader message) message)))
+
 -- ---- the walk
 
-module _ (P : World → Type 0) (k : Kept P) where
-  abbrev After : Outcome → Type 0
-  After o = P (o .world)
+module _ (eid : ℕ) (packet : List ℕ) (P : World → Type 0) (Q : Outcome → Type 0) (k : Walk eid packet P Q) where
+  abbrev H : Header
+  H = fields packet
 
-  checked-kept : (w : World) (i : ℕ) (a : Assembly) → i ≤ 1 → isEarly (slotAt (w .endpoint) i .phase) ≡ true → smallest ≤ a .length
-      → a .length ≤ store-size → P w → After (checked w i a (take (a .length) (storeAt w i)))
-  unfolding checked
-  checked-kept w i a is early lo hi p =
-      if-ind After (not (checkRight (take (a .length) (storeAt w i)))) (λ _. k .flagged (dropped w i) check-wrong (k .fallen w i is early p))
-      (λ _. k .entering w i a is early lo hi p)
+  abbrev M : List ℕ
+  M = payloadOf packet
 
-  joined-kept : (w : World) (i : ℕ) (a : Assembly) (eom : Bool) → i ≤ 1 → isEarly (slotAt (w .endpoint) i .phase) ≡ true
-      → gathers (a .source) (a .tag) (slotAt (w .endpoint) (otherSlot i) .phase) ≡ false → a .length ≤ store-size
-      → (eom ≡ true → smallest ≤ a .length) → (eom ≡ false → unit ≤ a .length) → P w → After (joined w i a eom)
-  unfolding joined
-  joined-kept w i a eom is early free hi last more p =
-      if-ind After eom (λ e. checked-kept w i a is early (last e) hi p) (λ e. k .awaiting w i a is early free (more e) hi p)
+  gathered-walk : (w : World) (i at : ℕ) → Joining eid packet w i at → (H .eom ≡ true → smallest ≤ at + length M)
+      → (H .eom ≡ false → unit ≤ at + length M) → P w → Q (gathered w i at H M)
+  unfolding gathered joined checked
+  gathered-walk w i at j last more p =
+      if-ind Q (H .eom)
+      (λ e.
+      if-ind Q (not (checkRight (take (at + length M) (storeAt (filled eid packet w i at) i)))) (λ _. k .failing w i at j p) (λ _. k .entering w i at j (last e) p))
+      (λ e. k .gaining w i at j (more e) p)
 
-  gathered-kept : (w : World) (i at : ℕ) (h : Header) (payload : List ℕ) → i ≤ 1 → isEarly (slotAt (w .endpoint) i .phase) ≡ true
-      → gathers (h .source) (h .tag) (slotAt (w .endpoint) (otherSlot i) .phase) ≡ false → at + length payload ≤ store-size
-      → (h .eom ≡ true → smallest ≤ at + length payload) → (h .eom ≡ false → unit ≤ at + length payload) → P w
-      → After (gathered w i at h payload)
-  unfolding gathered
-  gathered-kept w i at h payload is early free hi last more p =
-      joined-kept (withStore w i (put (storeAt w i) at payload)) i (assembly h (at + length payload)) (h .eom) is early free hi last more
-      (k .stored w i at payload is early hi p)
-
-  control-kept : (w : World) (h : Header) (m : List ℕ) → P w → After (firstControl w h (messageHeader m) m)
+  control-walk : (w : World) → readHeader eid unit inward packet ≡ Packet H → H .som ≡ true → byteAt M 0 ≡ message-type
+      → messageHeader M .ror ≡ false → messageHeader M .nmimt ≡ control → P w → Q (firstControl w H (messageHeader M) M)
   unfolding firstControl
-  control-kept w h m p =
-      if-ind After (not (h .eom) || not (eqb (length m) control-size)) (λ _. k .flagged w not-twelve p)
-      (λ _. if-ind After (not (checkRight m)) (λ _. k .flagged w check-wrong p) (λ _. k .controlling w h m p))
+  control-walk w read-so som typed request kind p =
+      if-ind Q (not (H .eom) || not (eqb (length M) control-size)) (λ _. k .refusing w not-twelve (omega arith) p)
+      (λ one.
+      if-ind Q (not (checkRight M)) (λ _. k .refusing w check-wrong (omega arith) p)
+      (λ right.
+      k .controlling w
+      (record {
+        read-so = read-so;
+        som = som;
+        eom = not-false (H .eom) (or-left (not (H .eom)) (not (eqb (length M) control-size)) one);
+        twelve = eqb-true (length M) control-size (not-false (eqb (length M) control-size) (or-right (not (H .eom)) (not (eqb (length M) control-size)) one));
+        typed = typed;
+        request = request;
+        kind = kind;
+        right = not-false (checkRight M) right;
+      })
+      p))
 
   -- once an assembly with this source and tag has ended
-  abbrev Free : World → Header → Type 0
-  Free w h = (i : ℕ) → i ≤ 1 → gathers (h .source) (h .tag) (slotAt (w .endpoint) i .phase) ≡ false
+  abbrev Free : World → Type 0
+  Free w = (i : ℕ) → i ≤ 1 → gathers (H .source) (H .tag) (slotAt (w .endpoint) i .phase) ≡ false
 
-  command-kept : (w : World) (h : Header) (i : ℕ) (m : List ℕ) → i ≤ 1 → Free w h → length m ≤ unit → (h .eom ≡ true → smallest ≤ length m)
-      → (h .eom ≡ false → length m ≡ unit) → P w → After (firstCommand w h i m)
+  command-walk : (w : World) → Free w → H .som ≡ true → length M ≤ unit → (H .eom ≡ true → smallest ≤ length M)
+      → (H .eom ≡ false → length M ≡ unit) → P w → Q (firstCommand w H (messageHeader M .csi) M)
   unfolding firstCommand
-  command-kept w h i m is free hi last more p =
-      if-ind After (not (isIdle (slotAt (w .endpoint) i .phase))) (λ _. k .busied w i is p)
+  command-walk w free som hi last more p =
+      let i = messageHeader M .csi in
+      let is = csi-most M in
+      if-ind Q (not (isIdle (slotAt (w .endpoint) i .phase))) (λ _. k .busying w i is p)
       (λ idle.
-      gathered-kept w i 0 h m is (idle-early (slotAt (w .endpoint) i .phase) (not-false (isIdle (slotAt (w .endpoint) i .phase)) idle))
-      (free (otherSlot i) (other-most i)) (omega arith) (λ e. omega (arith, last e)) (λ e. omega (arith, more e)) p)
+      gathered-walk w i 0
+      (record {
+        slot-is = is;
+        early = idle-early (slotAt (w .endpoint) i .phase) (not-false (isIdle (slotAt (w .endpoint) i .phase)) idle);
+        alone = free (otherSlot i) (other-most i);
+        fits = omega arith;
+        origin = opens som refl;
+      })
+      (λ e. omega (arith, last e)) (λ e. omega (arith, more e)) p)
 
-  first-kept : (w : World) (h : Header) (m : List ℕ) → Free w h → length m ≤ unit → P w → After (first w h m)
+  first-walk : (w : World) → readHeader eid unit inward packet ≡ Packet H → Free w → H .som ≡ true → length M ≤ unit → P w → Q (first w H M)
   unfolding first firstMessage
-  first-kept w h m free hi p =
-      if-ind After (not (eqb (byteAt m 0) message-type)) (λ _. k .flagged w not-a-request p)
-      (λ _.
-      if-ind After (isCut unit h (length m)) (λ _. k .flagged w not-full p)
+  first-walk w read-so free som hi p =
+      if-ind Q (not (eqb (byteAt M 0) message-type)) (λ _. k .refusing w not-a-request (omega arith) p)
+      (λ typed.
+      if-ind Q (isCut unit H (length M)) (λ _. k .refusing w not-full (omega arith) p)
       (λ cut.
-      if-ind After (h .eom && ltb (length m) smallest) (λ _. k .flagged w message-too-short p)
+      if-ind Q (H .eom && ltb (length M) smallest) (λ _. k .refusing w message-too-short (omega arith) p)
       (λ short.
-      if-ind After (messageHeader m .ror) (λ _. k .flagged w not-a-request p)
-      (λ _.
-      if-ind After (eqb (messageHeader m .nmimt) control) (λ _. control-kept w h m p)
-      (λ _.
-      command-kept w h (messageHeader m .csi) m (csi-most m) free hi (whole-message h (length m) short) (full-unit h (length m) cut) p)))))
+      if-ind Q (messageHeader M .ror) (λ _. k .refusing w not-a-request (omega arith) p)
+      (λ request.
+      if-ind Q (eqb (messageHeader M .nmimt) control)
+      (λ kind.
+      control-walk w read-so som (eqb-true (byteAt M 0) message-type (not-false (eqb (byteAt M 0) message-type) typed)) request
+      (eqb-true (messageHeader M .nmimt) control kind) p)
+      (λ _. command-walk w free som hi (whole-message H (length M) short) (full-unit H (length M) cut) p)))))
 
-  later-at : (w : World) (h : Header) (payload : List ℕ) (i : ℕ) (a : Assembly) → Holds (w .endpoint) (h .source) (h .tag) i a → 1 ≤ length payload
-      → P w → After (laterBy w h payload (At i a))
+  later-at : (w : World) (i : ℕ) (a : Assembly) → Holds (w .endpoint) (H .source) (H .tag) i a → H .som ≡ false → 1 ≤ length M
+      → P w → Q (laterBy w H M (At i a))
   unfolding laterAt
-  later-at w h payload i a held lo p =
+  later-at w i a held som lo p =
       let is = held .slot-is in
       let early : isEarly (slotAt (w .endpoint) i .phase) ≡ true = rw (held .gathers-it) refl in
-      let same = from-same (h .source) (h .tag) a (held .from-it) in
+      let same = from-same (H .source) (H .tag) a (held .from-it) in
       let v = k .sound w p .state in
       let size : PhaseFacts (slotAt (w .endpoint) i .paused) (Receive a) = rw (held .gathers-it) at (facts-at i is v) in
-      let free : gathers (h .source) (h .tag) (slotAt (w .endpoint) (otherSlot i) .phase) ≡ false =
-      rw (sym (same .0), sym (same .1)) (alone-at i is v a (held .gathers-it)) in
-      let refusal = joinRefusal unit store-size (a .sequence) (a .length) h (length payload) in
-      if-ind After (eqb refusal 0)
+      let free : gathers (H .source) (H .tag) (slotAt (w .endpoint) (otherSlot i) .phase) ≡ false =
+            rw (sym (same .0), sym (same .1)) (alone-at i is v a (held .gathers-it)) in
+      let refusal = joinRefusal unit store-size (a .sequence) (a .length) H (length M) in
+      if-ind Q (eqb refusal 0)
       (λ none.
-      let j = joins (a .sequence) (a .length) (length payload) h (eqb-true refusal 0 none) in
-      gathered-kept w i (a .length) h payload is early free (j .fits) (λ _. omega (arith, size .0)) (λ _. omega (arith, size .0)) p)
-      (λ _. k .flagged (dropped w i) refusal (k .fallen w i is early p))
+      let j = joins (a .sequence) (a .length) (length M) H (eqb-true refusal 0 none) in
+      gathered-walk w i (a .length)
+      (record { slot-is = is; early = early; alone = free; fits = j .fits; origin = goes-on som a (held .gathers-it) (held .from-it) })
+      (λ _. omega (arith, size .0)) (λ _. omega (arith, size .0)) p)
+      (λ some. k .dropping w i refusal (join-number (a .sequence) (a .length) (length M) H some) is early p)
 
-  later-kept : (w : World) (h : Header) (payload : List ℕ) → 1 ≤ length payload → P w → After (later w h payload)
+  later-walk : (w : World) → H .som ≡ false → 1 ≤ length M → P w → Q (later w H M)
   unfolding later
-  later-kept w h payload lo p = go (holder (w .endpoint) (h .source) (h .tag)) refl
+  later-walk w som lo p = go (holder (w .endpoint) (H .source) (H .tag)) refl
     where
-      go : (x : Holder) → holder (w .endpoint) (h .source) (h .tag) ≡ x → After (laterBy w h payload x)
-      go Nowhere e = k .flagged w no-assembly p
-      go (At i a) e = later-at w h payload i a (holder-at (w .endpoint) (h .source) (h .tag) e) lo p
+      go : (x : Holder) → holder (w .endpoint) (H .source) (H .tag) ≡ x → Q (laterBy w H M x)
+      go Nowhere e = k .refusing w no-assembly (omega arith) p
+      go (At i a) e = later-at w i a (holder-at (w .endpoint) (H .source) (H .tag) e) som lo p
 
-  by-header : (w : World) (packet : List ℕ) (r : Read) → readHeader (w .endpoint .eid) unit inward packet ≡ r → P w
-      → After (receivedBy w (payloadOf packet) r)
-  by-header w packet (Refused n) e p = k .flagged w n p
-  by-header w packet (Packet h) e p =
-      let s = read-sized (w .endpoint .eid) packet e in
-      if-ind After (h .som)
-      (λ _.
-      first-kept (withEndpoint w (endAssembly (w .endpoint) (h .source) (h .tag))) h (payloadOf packet)
-      (λ i is. ended-at (w .endpoint) (h .source) (h .tag) i is) (s .most) (k .finished w (h .source) (h .tag) p))
-      (λ _. later-kept w h (payloadOf packet) (s .some) p)
-
-  pub received-kept : (w : World) (packet : List ℕ) → P w → After (received w packet)
-  unfolding received
-  received-kept w packet p =
-      if-ind After (wrongStores w) (λ _. p) (λ _. by-header w packet (readHeader (w .endpoint .eid) unit inward packet) refl p)
+-- A packet that stores of the right length are lent to. `ended` is the world in which an assembly with its source and tag has ended.
+pub walked : (w : World) (packet : List ℕ) (P : World → Type 0) (Q : Outcome → Type 0) → Walk (w .endpoint .eid) packet P Q → Sound w
+    → P w → (fields packet .som ≡ true → P (withEndpoint w (endAssembly (w .endpoint) (fields packet .source) (fields packet .tag)))) → Q (received w packet)
+unfolding received
+walked w packet P Q k s p finished =
+    rw (right-stores w s) (by (readHeader (w .endpoint .eid) unit inward packet) refl)
+  where
+    by : (r : Read) → readHeader (w .endpoint .eid) unit inward packet ≡ r → Q (receivedBy w (payloadOf packet) r)
+    by (Refused n) e = k .refusing w n (read-number (w .endpoint .eid) packet e) p
+    by (Packet h) e =
+        let f : h ≡ fields packet = read-facts (w .endpoint .eid) packet e .fields-are in
+        let read-so : readHeader (w .endpoint .eid) unit inward packet ≡ Packet (fields packet) = rw f at e in
+        let z = read-sized (w .endpoint .eid) packet e in
+        rw f
+        (if-ind Q (fields packet .som)
+        (λ som.
+        first-walk (w .endpoint .eid) packet P Q k (withEndpoint w (endAssembly (w .endpoint) (fields packet .source) (fields packet .tag))) read-so
+        (λ i is. ended-at (w .endpoint) (fields packet .source) (fields packet .tag) i is) som (z .most) (finished som))
+        (λ som. later-walk (w .endpoint .eid) packet P Q k w som (z .some) p))

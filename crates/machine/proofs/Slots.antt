@@ -56,6 +56,9 @@ pub and-both : (a b : Bool) → (a && b) ≡ true → (a ≡ true) × (b ≡ tru
 and-both true b e = (refl, e)
 and-both false b e = false-true e
 
+pub both-and : (a b : Bool) → a ≡ true → b ≡ true → (a && b) ≡ true
+both-and a b p q = rw (p, q) refl
+
 pub from-same : (source tag : ℕ) (a : Assembly) → isFrom source tag a ≡ true → (a .source ≡ source) × (a .tag ≡ tag)
 from-same source tag a h =
     let k = and-both (eqb (a .source) source) (eqb (a .tag) tag) h in

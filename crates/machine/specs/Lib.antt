@@ -9,3 +9,5 @@ pub mod Poll
 pub mod Valid
 pub mod Calls
 pub mod Examples
+pub mod History
+pub mod Demands

@@ -1,0 +1,524 @@
+-- Demand 3: a measure that every counted poll lowers and no other call raises.
+-- Assumes nothing.
+use Prim.Native.Nat.{ℕ, zero, suc, _+_, _-_, _*_, _/_, _%_, _^_, _≤_, _<_}
+use mathlib.Core.Path.{_≡_, refl, sym, ap, _∙_}
+use mathlib.Core.Bool.{Bool, true, false, not, _&&_, _||_}
+use mathlib.Core.List.{List, [], _∷_, _++_}
+use native.Mathlib.Omega.{arith}
+use lib.Dec.{eqb, leb, ltb}
+use lib.ListN.{length, take}
+use lib.Seq.{take-all}
+use borrow.Author.Tests.{eq-eqb, ne-eqb, eqb-true, eqb-false, ltb-true, lt-ltb}
+use Rattle.lent.specs.Choice.{if_then_else_}
+use Rattle.lent.proofs.Choice.{if-ind}
+use Rattle.mctp.specs.Cut.{packets}
+use Rattle.mctp.proofs.Laws.{packets-bounds, packets-most, packets-cover}
+use Rattle.machine.specs.State.{World, slotAt, storeAt, withSlot, withEndpoint, withPhase, replySent, packetSent, idled}
+use Rattle.machine.specs.Wire.{unit, store-size}
+use Rattle.machine.specs.Finish.{taken}
+use Rattle.machine.specs.Poll.{otherSlot, sendingOr, begunOr, chosen, isLast, advanced, afterPacket, controlPacket, commandPacket}
+use Rattle.machine.specs.Valid.{phased, isBegun, Fits, PhaseFacts, Valid, Sound}
+use Rattle.machine.specs.Calls.{Call, receive, take!, read, complete, poll, timeout, reset, Event, number, given, handed-out, Stepped, stepped, takeEvent, step}
+use Rattle.machine.specs.History.{Log, History, phaseAt, isTransmit, moved, isPacketOf, transmitted, logAfter, counts, one?, next, run, start, cuts, packetsLeft, lastPacketOut}
+use Rattle.machine.specs.Demands.{Fate, cut, delivered, open!, fate, Within, Demand3}
+use Rattle.machine.specs.declared.Request.{Request}
+use Rattle.machine.specs.declared.Response.{Response}
+use Rattle.machine.specs.declared.Phase.{Phase}
+use Rattle.machine.specs.declared.Phase.the-variants.{Idle, Receive, Process, Answered, Transmit}
+use Rattle.machine.specs.declared.Slot.{Slot}
+use Rattle.machine.specs.declared.Endpoint.{Endpoint}
+use Rattle.machine.specs.declared.TakeAnswer.{TakeAnswer}
+use Rattle.machine.specs.declared.TakeAnswer.the-variants.{Refused, Given}
+use Rattle.machine.specs.declared.Ready.{Ready}
+use Rattle.machine.specs.declared.Ready.the-variants.{Nothing, From}
+use Rattle.machine.proofs.Slots.{false-true, both-and, isEarly, facts-at, slot-facts, other-most}
+use Rattle.machine.proofs.Keeps.{Chosen, chosen-at}
+use Rattle.machine.proofs.Places.{Which, this, that, which, other-differs, other-back, slot-this, slot-that}
+use Rattle.machine.proofs.Fits.{Going, Fit, Steady, same, newly, released, worked, fell, Carried}
+use Rattle.machine.proofs.Received.{Carries}
+use Rattle.machine.proofs.Polling.{PollCase, still, replies, sends, poll-case, PollKept, unmoved, moved-same, onward, onward-logs, onward-moves, sentLog, joined}
+use Rattle.machine.proofs.Histories.{Good, isPlain, plain-carries, good-next, good-run, good-start}
+
+-- ---- packets left, and what may go before
+
+abbrev leftOf : Response → ℕ
+leftOf r = packets unit (r .length) - r .sent
+
+abbrev leftIn : Phase → ℕ
+leftIn = phased 0 (λ a. 0) (λ r. 0) (λ r. 0) leftOf
+
+-- a response in Transmit has 1 to 66 packets left
+left-bounds : (r : Response) → unit * r .sent < r .length → Fits r → (1 ≤ leftOf r) × (packets unit (r .length) ≤ 66)
+left-bounds r inside f =
+    let k : r .sent < packets unit (r .length) = packets-bounds unit (r .length) (r .sent) (omega arith) .1 inside in
+    (omega arith, packets-most unit (r .length) 66 (omega arith) (f .most))
+
+-- command packets of the other slot that may go before slot i's next one: i begun, none; the other begun, its packets left; none begun and
+-- the other's turn, 66
+abbrev before : Bool → Bool → ℕ → Bool → ℕ
+before mine other left turn = if mine then 0 else if other then left else if turn then 66 else 0
+
+abbrev ahead : ℕ → Endpoint → ℕ
+ahead i e =
+    before (isBegun (slotAt e i .phase)) (isBegun (slotAt e (otherSlot i) .phase)) (leftIn (slotAt e (otherSlot i) .phase)) (eqb (e .turn) (otherSlot i))
+
+-- one poll more, where a control reply may go first
+abbrev replyFirst : Bool → ℕ
+replyFirst last = if last then 0 else 1
+
+abbrev measure : ℕ → Endpoint → ℕ
+measure i e = 2 * (leftIn (slotAt e i .phase) + ahead i e) + replyFirst (e .«last_control»)
+
+before-most : (a b : Bool) (n : ℕ) (t : Bool) → n ≤ 66 → before a b n t ≤ 66
+before-most true b n t h = omega arith
+before-most false true n t h = h
+before-most false false n true h = omega arith
+before-most false false n false h = omega arith
+
+-- the other slot is begun no more
+before-down : (a b : Bool) (n m : ℕ) (t : Bool) → (b ≡ true → t ≡ false) → before a false m t ≤ before a b n t
+before-down true b n m t h = omega arith
+before-down false true n m t h = rw (h refl) (omega arith)
+before-down false false n m t h = omega arith
+
+left-most : (b : Bool) (p : Phase) → PhaseFacts b p → leftIn p ≤ 66
+left-most b Idle f = omega arith
+left-most b (Receive a) f = omega arith
+left-most b (Process r) f = omega arith
+left-most b (Answered r) f = omega arith
+left-most b (Transmit r) f = omega (arith, left-bounds r (f .0) (f .1) .1)
+
+-- ---- calls other than poll
+
+-- where the other slot's response is begun, this slot's turn is next
+begun-not-turn : {e : Endpoint} (i : ℕ) → i ≤ 1 → Valid e → isBegun (slotAt e (otherSlot i) .phase) ≡ true → eqb (e .turn) (otherSlot i) ≡ false
+begun-not-turn {e} i is v h =
+    let k : e .turn ≡ otherSlot (otherSlot i) = slot-facts (otherSlot i) (other-most i) (v .slots-valid) .begun-turn h in
+    ne-eqb (e .turn) (otherSlot i) (λ q. other-differs i is (sym q ∙ k ∙ other-back i is))
+
+-- a slot in Transmit stays there, unless it is cut off
+stays : {C : Type 0} {p q : Phase} (r : Response) → Steady C p q → p ≡ Transmit r → (C → ⊥) → q ≡ p
+stays r (same e) t n = e
+stays r (newly a b) t n = false-true (rw t at a)
+stays r (released x a b) t n = absurd (omega (arith, differ (sym t ∙ a)))
+  where
+    differ : {r x : Response} → Transmit r ≡ Answered x → _≡_ {A = ℕ} 0 1
+    differ e = cc
+stays r (worked x a b) t n = absurd (omega (arith, differ (sym t ∙ a)))
+  where
+    differ : {r : Response} {x : Request} → Transmit r ≡ Process x → _≡_ {A = ℕ} 0 1
+    differ e = cc
+stays r (fell c e) t n = absurd (n c)
+
+waiting-unsent : (b : Bool) (p : Phase) → PhaseFacts b p → (r : Response) → p ≡ Answered r → r .sent ≡ 0
+waiting-unsent b p f r e = let k : PhaseFacts b (Answered r) = rw e at f in k .1
+
+-- the other slot
+module _ (e e′ : Endpoint) (i : ℕ) (is : i ≤ 1) (v : Valid e) (turn-is : e′ .turn ≡ e .turn) (mine : slotAt e′ i .phase ≡ slotAt e i .phase) where
+  calm-ahead : isBegun (slotAt e′ (otherSlot i) .phase) ≡ false → ahead i e′ ≤ ahead i e
+  calm-ahead b =
+      rw (mine, turn-is, b)
+      (before-down (isBegun (slotAt e i .phase)) (isBegun (slotAt e (otherSlot i) .phase)) (leftIn (slotAt e (otherSlot i) .phase))
+      (leftIn (slotAt e′ (otherSlot i) .phase)) (eqb (e .turn) (otherSlot i)) (begun-not-turn i is v))
+
+  ahead-down : {C : Type 0} → Steady C (slotAt e (otherSlot i) .phase) (slotAt e′ (otherSlot i) .phase) → ahead i e′ ≤ ahead i e
+  ahead-down (same q) = rw (mine, turn-is, q) (omega arith)
+  ahead-down (newly a b) = calm-ahead b
+  ahead-down (released r a b) =
+      calm-ahead (rw (b, waiting-unsent (slotAt e (otherSlot i) .paused) (slotAt e (otherSlot i) .phase) (facts-at (otherSlot i) (other-most i) v) r a) refl)
+  ahead-down (worked r a b) = calm-ahead b
+  ahead-down (fell c q) = calm-ahead (rw q refl)
+
+-- what a call that is not a poll does
+plain-step : (i : ℕ) → i ≤ 1 → (c : Call) (h : History) → Good h → isPlain c ≡ true → cuts i c (h .world) ≡ false → (r : Response) → phaseAt (h .world) i ≡ Transmit r
+    → (phaseAt (step c (h .world) .world) i ≡ Transmit r) × (measure i (step c (h .world) .world .endpoint) ≤ measure i (h .world .endpoint))
+plain-step i is c h g p n r t =
+    let k = plain-carries c h g p in
+    let e = h .world .endpoint in
+    let e′ = step c (h .world) .world .endpoint in
+    let mine : slotAt e′ i .phase ≡ slotAt e i .phase = stays r (k .carried i is .steady) t (λ b. false-true (sym n ∙ b)) in
+    let front : ahead i e′ ≤ ahead i e = ahead-down e e′ i is (g .sound .state) (k .turn-is) mine (k .carried (otherSlot i) (other-most i) .steady) in
+    let left : leftIn (slotAt e′ i .phase) ≡ leftIn (slotAt e i .phase) = ap leftIn mine in
+    let last : replyFirst (e′ .«last_control») ≡ replyFirst (e .«last_control») = ap replyFirst (k .last-is) in
+    (mine ∙ t, omega (arith, front, left, last))
+
+-- ---- which packet goes
+
+begun-or-some : (k : ℕ) (p : Phase) (other : Ready) → (other ≡ Nothing → ⊥) → begunOr k p other ≡ Nothing → ⊥
+begun-or-some k Idle other n e = n e
+begun-or-some k (Receive a) other n e = n e
+begun-or-some k (Process r) other n e = n e
+begun-or-some k (Answered r) other n e = n e
+begun-or-some k (Transmit r) other n e = if-ind (λ (x : Ready). x ≡ Nothing → ⊥) (ltb 0 (r .sent)) (λ _ q. omega (arith, from-nothing q)) (λ _ q. n q) e
+  where
+    from-nothing : From k r ≡ Nothing → _≡_ {A = ℕ} 0 1
+    from-nothing q = cc
+
+sending-or-some : (k : ℕ) (p : Phase) (other : Ready) (r : Response) → p ≡ Transmit r → sendingOr k p other ≡ From k r
+sending-or-some k p other r e = rw e refl
+
+sending-or-other : (k : ℕ) (p : Phase) (other : Ready) → (other ≡ Nothing → ⊥) → sendingOr k p other ≡ Nothing → ⊥
+sending-or-other k Idle other n e = n e
+sending-or-other k (Receive a) other n e = n e
+sending-or-other k (Process r) other n e = n e
+sending-or-other k (Answered r) other n e = n e
+sending-or-other k (Transmit r) other n e = omega (arith, from-nothing e)
+  where
+    from-nothing : From k r ≡ Nothing → _≡_ {A = ℕ} 0 1
+    from-nothing q = cc
+
+from-none : {k : ℕ} {r : Response} {x : Ready} → x ≡ From k r → x ≡ Nothing → ⊥
+from-none {k} {r} a b = omega (arith, zero-one (sym a ∙ b))
+  where
+    zero-one : From k r ≡ Nothing → _≡_ {A = ℕ} 0 1
+    zero-one q = cc
+
+abbrev byTurn : Endpoint → Ready
+byTurn e = sendingOr (e .turn) (slotAt e (e .turn) .phase) (sendingOr (otherSlot (e .turn)) (slotAt e (otherSlot (e .turn)) .phase) Nothing)
+
+-- a slot in Transmit: something is chosen
+turn-some : (e : Endpoint) → Valid e → (i : ℕ) → i ≤ 1 → (r : Response) → slotAt e i .phase ≡ Transmit r → byTurn e ≡ Nothing → ⊥
+turn-some e v i is r t = at (which (e .turn) i (v .turn-most) is)
+  where
+    at : Which (e .turn) i → byTurn e ≡ Nothing → ⊥
+    at (this q) n = from-none (sending-or-some (e .turn) (slotAt e (e .turn) .phase) _ r (rw q at t)) n
+    at (that q) n =
+        sending-or-other (e .turn) (slotAt e (e .turn) .phase) _
+        (λ m. from-none (sending-or-some (otherSlot (e .turn)) (slotAt e (otherSlot (e .turn)) .phase) Nothing r (rw q at t)) m) n
+
+chosen-some : (e : Endpoint) → Valid e → (i : ℕ) → i ≤ 1 → (r : Response) → slotAt e i .phase ≡ Transmit r → chosen e ≡ Nothing → ⊥
+unfolding chosen
+chosen-some e v i is r t n =
+    begun-or-some 0 (slotAt e 0 .phase) _ (λ m. begun-or-some 1 (slotAt e 1 .phase) (byTurn e) (turn-some e v i is r t) m) n
+
+-- with none begun the turn decides
+begun-or-not : (k : ℕ) (p : Phase) (other : Ready) → isBegun p ≡ false → begunOr k p other ≡ other
+begun-or-not k Idle other h = refl
+begun-or-not k (Receive a) other h = refl
+begun-or-not k (Process r) other h = refl
+begun-or-not k (Answered r) other h = refl
+begun-or-not k (Transmit r) other h = rw h refl
+
+both-slots : (P : ℕ → Type 0) (i : ℕ) → i ≤ 1 → P i → P (otherSlot i) → P 0 × P 1
+both-slots P zero h a b = (a, b)
+both-slots P (suc zero) h a b = (b, a)
+both-slots P (suc (suc n)) h a b = absurd (omega arith)
+
+turn-decides : (e : Endpoint) → Valid e → (i : ℕ) → i ≤ 1 → (r q : Response) → slotAt e i .phase ≡ Transmit r → isBegun (slotAt e i .phase) ≡ false
+    → isBegun (slotAt e (otherSlot i) .phase) ≡ false → chosen e ≡ From (otherSlot i) q → eqb (e .turn) (otherSlot i) ≡ true
+unfolding chosen
+turn-decides e v i is r q t a b c = at (which i (e .turn) is (v .turn-most))
+  where
+    none : (isBegun (slotAt e 0 .phase) ≡ false) × (isBegun (slotAt e 1 .phase) ≡ false)
+    none = both-slots (λ (k : ℕ). isBegun (slotAt e k .phase) ≡ false) i is a b
+    by-turn : byTurn e ≡ From (otherSlot i) q
+    by-turn = sym (begun-or-not 0 (slotAt e 0 .phase) _ (none .0) ∙ begun-or-not 1 (slotAt e 1 .phase) (byTurn e) (none .1)) ∙ c
+    same-slot : {k m : ℕ} {x y : Response} → From k x ≡ From m y → k ≡ m
+    same-slot p = cc
+    at : Which i (e .turn) → eqb (e .turn) (otherSlot i) ≡ true
+    at (this p) =
+        let here : byTurn e ≡ From (e .turn) r = sending-or-some (e .turn) (slotAt e (e .turn) .phase) _ r (rw (sym p) at t) in
+        absurd (other-differs i is (sym (same-slot (sym here ∙ by-turn)) ∙ p))
+    at (that p) = eq-eqb (e .turn) (otherSlot i) p
+
+-- ---- one call's progress with slot i's response
+
+abbrev nextBy : Call → History → Stepped → History
+nextBy c h s =
+    record { world = s .world; log = λ i. logAfter i c (h .world) s (h .log i); counted = h .counted + one? (counts c (h .world)) }
+
+abbrev lastBy : ℕ → Call → History → Stepped → Bool
+lastBy i c h s = isPacketOf (phaseAt (h .world) i) (phaseAt (s .world) i) (s .event) && eqb (packetsLeft i (nextBy c h s)) 0
+
+data Progress (i : ℕ) (c : Call) (h : History) (s : Stepped) : Type 0 where
+  finished : lastBy i c h s ≡ true → nextBy c h s .log i .payloads ≡ nextBy c h s .log i .response → Progress i c h s
+  goes : lastBy i c h s ≡ false → (r : Response) → phaseAt (s .world) i ≡ Transmit r
+      → measure i (s .world .endpoint) + one? (counts c (h .world)) ≤ measure i (h .world .endpoint) → Progress i c h s
+
+and-no : (b : Bool) → b ≡ false → (c : Bool) → (b && c) ≡ false
+and-no b e c = rw e refl
+
+no-and : (b c : Bool) → c ≡ false → (b && c) ≡ false
+no-and true c e = e
+no-and false c e = refl
+
+module _ (i : ℕ) (is : i ≤ 1) (buffer : List ℕ) (h : History) (g : Good h) (r : Response) (t : phaseAt (h .world) i ≡ Transmit r) where
+  abbrev e₀ : Endpoint
+  e₀ = h .world .endpoint
+
+  v₀ : Valid e₀
+  v₀ = g .sound .state
+
+  facts : PhaseFacts (slotAt e₀ i .paused) (Transmit r)
+  facts = rw t at (facts-at i is v₀)
+
+  going : Going r (storeAt (h .world) i) (h .log i)
+  going = rw t at (g .fits i is .phase-fits)
+
+  some-chosen : chosen e₀ ≡ Nothing → ⊥
+  some-chosen = chosen-some e₀ v₀ i is r t
+
+  -- nothing is sent: then the poll is not counted
+  nothing-sent : (n : ℕ) → (counts (poll buffer) (h .world) ≡ true → chosen e₀ ≡ Nothing) → Progress i (poll buffer) h (stepped (number n) (h .world))
+  nothing-sent n k = goes refl r t (go (counts (poll buffer) (h .world)) refl)
+    where
+      go : (b : Bool) → counts (poll buffer) (h .world) ≡ b → measure i e₀ + one? b ≤ measure i e₀
+      go true e = absurd (some-chosen (k e))
+      go false e = omega arith
+
+  -- a control reply goes: the next poll is a command packet's
+  control-sent : (counts (poll buffer) (h .world) ≡ true → (chosen e₀ ≡ Nothing → ⊥) → e₀ .«last_control» ≡ false)
+      → Progress i (poll buffer) h (stepped (handed-out (controlPacket e₀)) (withEndpoint (h .world) (replySent e₀)))
+  control-sent k = goes (and-no _ (moved-same (phaseAt (h .world) i)) _) r t (go (counts (poll buffer) (h .world)) refl (e₀ .«last_control») refl)
+    where
+      go : (b : Bool) → counts (poll buffer) (h .world) ≡ b → (l : Bool) → e₀ .«last_control» ≡ l
+          → 2 * (leftIn (phaseAt (h .world) i) + ahead i e₀) + 0 + one? b ≤ 2 * (leftIn (phaseAt (h .world) i) + ahead i e₀) + replyFirst l
+      go true e true f = false-true (sym (k e some-chosen) ∙ f)
+      go true e false f = omega arith
+      go false e l f = omega arith
+
+  -- slot i's own packet
+  abbrev own : Stepped
+  own = stepped (handed-out (commandPacket (h .world) i r)) (withEndpoint (h .world) (packetSent (withSlot e₀ i (afterPacket (slotAt e₀ i) r)) (otherSlot i)))
+
+  own-phase : phaseAt (own .world) i ≡ afterPacket (slotAt e₀ i) r .phase
+  own-phase = ap (λ (s : Slot). s .phase) (slot-this i is v₀ (afterPacket (slotAt e₀ i) r))
+
+  abbrev sentLog₀ : Log
+  sentLog₀ = sentLog (h .world) i r (h .log i) going
+
+  own-log : logAfter i (poll buffer) (h .world) own (h .log i) ≡ sentLog₀
+  own-log = go (phaseAt (h .world) i) (phaseAt (own .world) i) t own-phase
+    where
+      go : (p q : Phase) → p ≡ Transmit r → q ≡ afterPacket (slotAt e₀ i) r .phase → transmitted p q (handed-out (commandPacket (h .world) i r)) (h .log i) ≡ sentLog₀
+      go p q a b = rw (a, b) (onward-logs (commandPacket (h .world) i r) (h .log i) (onward (slotAt e₀ i) r))
+
+  own-moves : moved (phaseAt (h .world) i) (phaseAt (own .world) i) ≡ true
+  own-moves = go (phaseAt (h .world) i) (phaseAt (own .world) i) t own-phase
+    where
+      go : (p q : Phase) → p ≡ Transmit r → q ≡ afterPacket (slotAt e₀ i) r .phase → moved p q ≡ true
+      go p q a b = rw (a, b) (onward-moves (onward (slotAt e₀ i) r))
+
+  own-left : packetsLeft i (nextBy (poll buffer) h own) ≡ packets unit (r .length) - (r .sent + 1)
+  own-left =
+      ap (λ (m : Log). (length (m .response) + 63) / 64 - m .packets) own-log
+      ∙ rw (going .full .size, going .count) refl
+
+  -- its last packet
+  own-last : isLast r ≡ true → Progress i (poll buffer) h own
+  own-last last =
+      let n : r .sent + 1 ≡ packets unit (r .length) = eqb-true (r .sent + 1) (packets unit (r .length)) last in
+      let none : packetsLeft i (nextBy (poll buffer) h own) ≡ 0 = own-left ∙ omega (arith, n) in
+      let reached : length (h .log i .response) ≤ unit * (r .sent + 1) = rw (going .full .size, n) (packets-cover unit (r .length) (omega arith)) in
+      finished (both-and (moved (phaseAt (h .world) i) (phaseAt (own .world) i)) (eqb (packetsLeft i (nextBy (poll buffer) h own)) 0) own-moves (eq-eqb (packetsLeft i (nextBy (poll buffer) h own)) 0 none))
+      (ap (λ (m : Log). m .payloads) own-log ∙ joined (h .world) i r (h .log i) going ∙ take-all (unit * (r .sent + 1)) (h .log i .response) reached
+      ∙ sym (ap (λ (m : Log). m .response) own-log))
+
+  -- another of its packets
+  own-more : isLast r ≡ false → counts (poll buffer) (h .world) ≡ true → Progress i (poll buffer) h own
+  own-more more counted =
+      let bound = packets-bounds unit (r .length) (r .sent) (omega arith) .1 (facts .0) in
+      let n : r .sent + 1 < packets unit (r .length) = omega (arith, bound, eqb-false (r .sent + 1) (packets unit (r .length)) more) in
+      let some : eqb (packetsLeft i (nextBy (poll buffer) h own)) 0 ≡ false = ne-eqb (packetsLeft i (nextBy (poll buffer) h own)) 0 (λ z. omega (arith, sym own-left ∙ z)) in
+      let phase : phaseAt (own .world) i ≡ Transmit (advanced r) = own-phase ∙ rw more refl in
+      let left : leftIn (phaseAt (own .world) i) ≡ packets unit (r .length) - (r .sent + 1) = ap leftIn phase in
+      let begun : isBegun (phaseAt (own .world) i) ≡ true = ap isBegun phase ∙ lt-ltb 0 (r .sent + 1) (omega arith) in
+      let front : ahead i (own .world .endpoint) ≡ 0 = rw begun refl in
+      let was : leftIn (phaseAt (h .world) i) ≡ packets unit (r .length) - r .sent = ap leftIn t in
+      goes (no-and (moved (phaseAt (h .world) i) (phaseAt (own .world) i)) (eqb (packetsLeft i (nextBy (poll buffer) h own)) 0) some) (advanced r) phase (rw counted (omega (arith, left, front, was, n)))
+
+  -- a packet of the other slot
+  module _ (q : Response) (c : chosen e₀ ≡ From (otherSlot i) q) where
+    abbrev o : ℕ
+    o = otherSlot i
+
+    abbrev theirs : Stepped
+    theirs = stepped (handed-out (commandPacket (h .world) o q)) (withEndpoint (h .world) (packetSent (withSlot e₀ o (afterPacket (slotAt e₀ o) q)) (otherSlot o)))
+
+    picked : Chosen e₀ o q
+    picked = chosen-at e₀ v₀ c
+
+    os : o ≤ 1
+    os = other-most i
+
+    -- slot i is as it was, and not begun
+    mine : phaseAt (theirs .world) i ≡ phaseAt (h .world) i
+    mine =
+        go (otherSlot o) (other-back i is) (ap (λ (s : Slot). s .phase) (slot-that o os v₀ (afterPacket (slotAt e₀ o) q)))
+      where
+        go : (k : ℕ) → k ≡ i → slotAt (withSlot e₀ o (afterPacket (slotAt e₀ o) q)) k .phase ≡ slotAt e₀ k .phase → phaseAt (theirs .world) i ≡ phaseAt (h .world) i
+        go k e p = rw e at p
+
+    unbegun : isBegun (phaseAt (h .world) i) ≡ false
+    unbegun = go (isBegun (phaseAt (h .world) i)) refl
+      where
+        go : (b : Bool) → isBegun (phaseAt (h .world) i) ≡ b → b ≡ false
+        go true e = absurd (picked .first-of-two (rw (other-back i is) e))
+        go false e = refl
+
+    their-facts : PhaseFacts (slotAt e₀ o .paused) (Transmit q)
+    their-facts = rw (picked .sends) at (facts-at o os v₀)
+
+    bounds : (1 ≤ leftOf q) × (packets unit (q .length) ≤ 66)
+    bounds = left-bounds q (their-facts .0) (their-facts .1)
+
+    -- before, at least the packets that the other slot has left
+    ahead-least : leftOf q ≤ ahead i e₀
+    ahead-least = rw unbegun (go (isBegun (phaseAt (h .world) o)) refl)
+      where
+        go : (b : Bool) → isBegun (phaseAt (h .world) o) ≡ b → leftOf q ≤ (if b then leftIn (phaseAt (h .world) o) else if eqb (e₀ .turn) o then 66 else 0)
+        go true e = rw (picked .sends) (omega arith)
+        go false e = rw (turn-decides e₀ v₀ i is r q t unbegun e c) (omega (arith, bounds .1))
+
+    -- afterwards, one less
+    ahead-after : ahead i (theirs .world .endpoint) + 1 ≤ leftOf q
+    ahead-after =
+        let not-turn : eqb (otherSlot o) o ≡ false = ne-eqb (otherSlot o) o (λ e. other-differs o os e) in
+        let their-phase : phaseAt (theirs .world) o ≡ afterPacket (slotAt e₀ o) q .phase = ap (λ (s : Slot). s .phase) (slot-this o os v₀ (afterPacket (slotAt e₀ o) q)) in
+        rw (mine, unbegun, not-turn, their-phase) (go (isLast q) refl)
+      where
+        go : (b : Bool) → isLast q ≡ b
+            → (if isBegun ((if b then idled (slotAt e₀ o) else withPhase (slotAt e₀ o) (Transmit (advanced q))) .phase)
+              then leftIn ((if b then idled (slotAt e₀ o) else withPhase (slotAt e₀ o) (Transmit (advanced q))) .phase) else 0) + 1 ≤ leftOf q
+        go true e = bounds .0
+        go false e = rw (lt-ltb 0 (q .sent + 1) (omega arith)) (omega (arith, bounds .0))
+
+    theirs-goes : counts (poll buffer) (h .world) ≡ true → Progress i (poll buffer) h theirs
+    theirs-goes counted =
+        goes (and-no _ (ap (moved (phaseAt (h .world) i)) mine ∙ moved-same (phaseAt (h .world) i)) _) r (mine ∙ t)
+        (rw counted (omega (arith, ap leftIn mine, ahead-least, ahead-after)))
+
+  poll-progress : Progress i (poll buffer) h (step (poll buffer) (h .world))
+  poll-progress = by (poll-case (h .world) buffer (g .sound))
+    where
+      own-goes : (b : Bool) → isLast r ≡ b → counts (poll buffer) (h .world) ≡ true → Progress i (poll buffer) h own
+      own-goes true e k = own-last e
+      own-goes false e k = own-more e k
+      same-response : {x : Phase} {a b : Response} → x ≡ Transmit a → x ≡ Transmit b → b ≡ a
+      same-response p q = cc
+      -- the packet is slot i's, or the other's
+      sent : (k : ℕ) (q : Response) → chosen e₀ ≡ From k q → counts (poll buffer) (h .world) ≡ true → Which i k
+          → Progress i (poll buffer) h
+          (stepped (handed-out (commandPacket (h .world) k q)) (withEndpoint (h .world) (packetSent (withSlot e₀ k (afterPacket (slotAt e₀ k) q)) (otherSlot k))))
+      sent k q c counted (this e) =
+          let mine : phaseAt (h .world) i ≡ Transmit q = rw e at (chosen-at e₀ v₀ c .sends) in
+          rw (e, same-response t mine) (own-goes (isLast r) refl counted)
+      sent k q c counted (that e) = rw e (theirs-goes q (rw e at c) counted)
+      by : {s : Stepped} → PollCase (h .world) buffer s → Progress i (poll buffer) h s
+      by (still n k) = nothing-sent n k
+      by (replies a k) = control-sent k
+      by (sends k q c counted) = sent k q c counted (which i k is (chosen-at e₀ v₀ c .slot-is))
+
+-- ---- any call
+
+-- a call that is not a poll hands out no packet, and is not counted
+pub record Mute (c : Call) (w : World) : Type 0 where
+  pub no-packet : (p q : Phase) → isPacketOf p q (step c w .event) ≡ false
+  pub not-counted : counts c w ≡ false
+
+take-mute : (p q : Phase) (a : TakeAnswer) → isPacketOf p q (takeEvent a) ≡ false
+take-mute p q (Refused n) = refl
+take-mute p q (Given t) = refl
+
+mute : (c : Call) (w : World) → isPlain c ≡ true → Mute c w
+unfolding step
+mute (receive p) w e = record { no-packet = λ a b. unfold step in refl; not-counted = refl }
+mute (take! i) w e = record { no-packet = λ a b. unfold step in (take-mute a b (taken (w .endpoint) i .answer)); not-counted = refl }
+mute (read i) w e = record { no-packet = λ a b. unfold step in refl; not-counted = refl }
+mute (complete i t body) w e = record { no-packet = λ a b. unfold step in refl; not-counted = refl }
+mute (poll buffer) w e = false-true e
+mute (timeout i) w e = record { no-packet = λ a b. unfold step in refl; not-counted = refl }
+mute reset w e = false-true e
+
+plain-progress : (i : ℕ) → i ≤ 1 → (c : Call) (h : History) → Good h → isPlain c ≡ true → cuts i c (h .world) ≡ false → (r : Response) → phaseAt (h .world) i ≡ Transmit r
+    → Progress i c h (step c (h .world))
+plain-progress i is c h g p n r t =
+    let k = plain-step i is c h g p n r t in
+    let m = mute c (h .world) p in
+    goes (and-no _ (m .no-packet (phaseAt (h .world) i) (phaseAt (step c (h .world) .world) i)) _) r (k .0) (rw (m .not-counted) (omega (arith, k .1)))
+
+progress : (i : ℕ) → i ≤ 1 → (c : Call) (h : History) → Good h → cuts i c (h .world) ≡ false → (r : Response) → phaseAt (h .world) i ≡ Transmit r
+    → Progress i c h (step c (h .world))
+progress i is (receive p) h g n r t = plain-progress i is (receive p) h g refl n r t
+progress i is (take! j) h g n r t = plain-progress i is (take! j) h g refl n r t
+progress i is (read j) h g n r t = plain-progress i is (read j) h g refl n r t
+progress i is (complete j x body) h g n r t = plain-progress i is (complete j x body) h g refl n r t
+progress i is (poll buffer) h g n r t = poll-progress i is buffer h g r t
+progress i is (timeout j) h g n r t = plain-progress i is (timeout j) h g refl n r t
+progress i is reset h g n r t = false-true (sym n)
+
+-- ---- the list
+
+-- a slot in Transmit needs two polls more at least
+measure-least : (i : ℕ) → i ≤ 1 → (h : History) → Good h → (r : Response) → phaseAt (h .world) i ≡ Transmit r → 2 ≤ measure i (h .world .endpoint)
+measure-least i is h g r t =
+    let f : PhaseFacts (slotAt (h .world .endpoint) i .paused) (Transmit r) = rw t at (facts-at i is (g .sound .state)) in
+    omega (arith, left-bounds r (f .0) (f .1) .0, ap leftIn t)
+
+abbrev counted-by : Call → History → ℕ
+counted-by c h = one? (counts c (h .world))
+
+one-most : (b : Bool) → one? b ≤ 1
+one-most true = omega arith
+one-most false = omega arith
+
+-- what is promised of the rest of the list, where the measure has fallen with the count
+abbrev Onwards : ℕ → ℕ → List Call → Type 0
+Onwards i most ys =
+    (h : History) → Good h → (r : Response) → phaseAt (h .world) i ≡ Transmit r → h .counted + measure i (h .world .endpoint) ≤ most + 1 → Within most i (fate i ys h)
+
+within-turn : (i most : ℕ) → i ≤ 1 → (c : Call) (cs : List Call) → Onwards i most cs → (h : History) → Good h → (r : Response) → phaseAt (h .world) i ≡ Transmit r
+    → h .counted + measure i (h .world .endpoint) ≤ most + 1 → (x : Bool) → lastPacketOut i c h ≡ x → Progress i c h (step c (h .world))
+    → Within most i (if x then delivered (next c h) else fate i cs (next c h))
+unfolding next
+within-turn i most is c cs rest h g r t b true e (finished l q) =
+    (omega (arith, measure-least i is h g r t, one-most (counts c (h .world))), q)
+within-turn i most is c cs rest h g r t b true e (goes l r′ t′ m) = false-true (sym l ∙ e)
+within-turn i most is c cs rest h g r t b false e (finished l q) = false-true (sym e ∙ l)
+within-turn i most is c cs rest h g r t b false e (goes l r′ t′ m) = rest (next c h) (good-next c h g) r′ t′ (omega (arith, m))
+
+pub within : (i most : ℕ) → i ≤ 1 → (ys : List Call) → Onwards i most ys
+unfolding fate
+within i most is [] h g r t b = omega (arith, measure-least i is h g r t)
+within i most is (c ∷ cs) h g r t b = by (within i most is cs) (cuts i c (h .world)) refl
+  where
+    by : Onwards i most cs → (x : Bool) → cuts i c (h .world) ≡ x
+        → Within most i (if x then cut else if lastPacketOut i c h then delivered (next c h) else fate i cs (next c h))
+    by rest true e = tt
+    by rest false e = within-turn i most is c cs rest h g r t b (lastPacketOut i c h) refl (progress i is c h g e r t)
+
+-- ---- DEMAND 3
+
+-- the history's packets left are the state's
+left-is : (i : ℕ) → i ≤ 1 → (h : History) → Good h → (r : Response) → phaseAt (h .world) i ≡ Transmit r → packetsLeft i h ≡ leftOf r
+left-is i is h g r t =
+    let k : Going r (storeAt (h .world) i) (h .log i) = rw t at (g .fits i is .phase-fits) in
+    rw (k .full .size, k .count) refl
+
+sending-phase : (p : Phase) → isTransmit p ≡ true → (r : Response) × (p ≡ Transmit r)
+sending-phase Idle h = false-true h
+sending-phase (Receive a) h = false-true h
+sending-phase (Process r) h = false-true h
+sending-phase (Answered r) h = false-true h
+sending-phase (Transmit r) h = (r, refl)
+
+from-here : (i : ℕ) → i ≤ 1 → (h : History) → Good h → (r : Response) → phaseAt (h .world) i ≡ Transmit r → (ys : List Call)
+    → (1 ≤ packetsLeft i h) × (packetsLeft i h ≤ 66) × Within (h .counted + 2 * (66 + packetsLeft i h)) i (fate i ys h)
+from-here i is h g r t ys =
+    let v = g .sound .state in
+    let f : PhaseFacts (slotAt (h .world .endpoint) i .paused) (Transmit r) = rw t at (facts-at i is v) in
+    let k = left-bounds r (f .0) (f .1) in
+    let n = left-is i is h g r t in
+    let o = otherSlot i in
+    let most : ahead i (h .world .endpoint) ≤ 66 =
+          before-most (isBegun (phaseAt (h .world) i)) (isBegun (phaseAt (h .world) o)) (leftIn (phaseAt (h .world) o)) (eqb (h .world .endpoint .turn) o)
+          (left-most (slotAt (h .world .endpoint) o .paused) (phaseAt (h .world) o) (facts-at o (other-most i) v)) in
+    let first : replyFirst (h .world .endpoint .«last_control») ≤ 1 =
+          if-ind (λ (x : ℕ). x ≤ 1) (h .world .endpoint .«last_control») (λ _. omega arith) (λ _. omega arith) in
+    (omega (arith, k .0, n), omega (arith, k .1, n), within i (h .counted + 2 * (66 + packetsLeft i h)) is ys h g r t (omega (arith, most, first, n, ap leftIn t)))
+
+pub demand-3 : Demand3
+demand-3 eid store0 store1 a b xs ys i is t =
+    let h = run xs (start eid store0 store1) in
+    let k = sending-phase (phaseAt (h .world) i) t in
+    from-here i is h (good-run xs (start eid store0 store1) (good-start eid store0 store1 a b)) (k .0) (k .1) ys

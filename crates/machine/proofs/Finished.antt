@@ -1,0 +1,187 @@
+-- What taking, reading, completing, a timeout and a reset do to each slot, its store and its log.
+-- Assumes nothing.
+use Prim.Native.Nat.{ℕ, zero, suc, _+_, _-_, _*_, _/_, _%_, _^_, _≤_, _<_}
+use mathlib.Core.Path.{_≡_, refl, sym, ap, _∙_}
+use mathlib.Core.Bool.{Bool, true, false, not, _&&_, _||_}
+use mathlib.Core.List.{List, [], _∷_, _++_}
+use native.Mathlib.Omega.{arith}
+use lib.Dec.{eqb, ltb}
+use lib.ListN.{length, take, drop}
+use borrow.Author.Tests.{eq-eqb, ne-eqb, not-false, not-true}
+use Rattle.lent.specs.Choice.{if_then_else_}
+use Rattle.lent.specs.Bytes.{put}
+use Rattle.lent.proofs.Choice.{if-ind, or-left}
+use Rattle.lent.proofs.Stores.{take-put}
+use Rattle.nvme_mi.specs.Response.{response}
+use Rattle.nvme_mi.proofs.Laws.{length-response}
+use Rattle.machine.specs.State.{World, Outcome, outcome, slotAt, storeAt, withSlot, withStore, withEndpoint, withPhase, idled, settled, fresh}
+use Rattle.machine.specs.Wire.{wrongStores}
+use Rattle.machine.specs.Process.{responseTo, responded}
+use Rattle.machine.specs.Finish.{isSlot, takenRequest, takenRow, takenFrom, taken, isBody, completedRow, completedIn, completed, isReceive, timedOut, wasReset}
+use Rattle.machine.specs.Poll.{otherSlot}
+use Rattle.machine.specs.Valid.{Valid, Sound}
+use Rattle.machine.specs.Calls.{Call, take!, read, complete, timeout, reset, Event, number, given, Stepped, stepped, byOutcome, byDone, byTake, step}
+use Rattle.machine.specs.History.{Log, phaseAt, completing, commanded, transmitted, logAfter, cuts}
+use Rattle.machine.specs.declared.Ticket.{Ticket}
+use Rattle.machine.specs.declared.Taking.{Taking}
+use Rattle.machine.specs.declared.Taking.the-variants.{Untaken, Taken}
+use Rattle.machine.specs.declared.Request.{Request}
+use Rattle.machine.specs.declared.Phase.{Phase}
+use Rattle.machine.specs.declared.Phase.the-variants.{Idle, Receive, Process, Answered, Transmit}
+use Rattle.machine.specs.declared.Slot.{Slot}
+use Rattle.machine.specs.declared.Endpoint.{Endpoint}
+use Rattle.machine.specs.declared.Done.{Done}
+use Rattle.machine.specs.declared.TakeDone.{TakeDone}
+use Rattle.machine.proofs.Slots.{isEarly, false-true, other-most}
+use Rattle.machine.proofs.Keeps.{slot-most}
+use Rattle.machine.proofs.Places.{Which, this, that, which, other-differs, slot-this, slot-that, store-this, store-that}
+use Rattle.machine.proofs.Fits.{Asked, Fit, stayed, worked, Carried, quiet-other, carried-same, carried-ended, carried-cut, carried-settled, settled-begun, settled-process, response-is}
+use Rattle.machine.proofs.Received.{Carries}
+
+module _ (w₀ : World) (log : ℕ → Log) (s₀ : Sound w₀)
+    (fits : (j : ℕ) → j ≤ 1 → Fit (slotAt (w₀ .endpoint) j) (storeAt w₀ j) (log j)) where
+
+  -- ---- taking
+
+  took : (i : ℕ) → i ≤ 1 → (r : Request) → phaseAt w₀ i ≡ Process r
+      → Carries (take! i) w₀ log (stepped (given (slotAt (w₀ .endpoint) i .ticket)) (withEndpoint w₀ (withSlot (w₀ .endpoint) i (withPhase (slotAt (w₀ .endpoint) i) (Process (takenRequest r))))))
+  took i is r p = record { turn-is = refl; last-is = refl; carried = λ j js. at j js (which i j is js) }
+    where
+      s : Slot
+      s = withPhase (slotAt (w₀ .endpoint) i) (Process (takenRequest r))
+      this-one : Carried (false ≡ true) (slotAt (w₀ .endpoint) i) (withPhase (slotAt (w₀ .endpoint) i) (Process (takenRequest r))) (storeAt w₀ i) (log i)
+          (transmitted (phaseAt w₀ i) (Process (takenRequest r)) (number 0) (log i))
+      this-one =
+          let k : Asked r (storeAt w₀ i) (log i) = rw p at (fits i is .phase-fits) in
+          rw (quiet-other (phaseAt w₀ i) (Process (takenRequest r)) 0 (log i) refl)
+          (record {
+            fit = record { phase-fits = record { held = k .held; kind-is = k .kind-is; from = k .from; under = k .under }; ticket-is = fits i is .ticket-is };
+            entry = stayed refl (λ h. (rw p refl, refl));
+            steady = worked r p refl;
+          })
+      at : (j : ℕ) → j ≤ 1 → Which i j
+          → Carried (false ≡ true) (slotAt (w₀ .endpoint) j) (slotAt (withSlot (w₀ .endpoint) i (withPhase (slotAt (w₀ .endpoint) i) (Process (takenRequest r)))) j) (storeAt w₀ j) (log j)
+          (transmitted (phaseAt w₀ j) (slotAt (withSlot (w₀ .endpoint) i (withPhase (slotAt (w₀ .endpoint) i) (Process (takenRequest r)))) j .phase) (number 0) (log j))
+      at j js (this q) = rw (q, slot-this i is (s₀ .state) (withPhase (slotAt (w₀ .endpoint) i) (Process (takenRequest r)))) this-one
+      at j js (that q) = rw (q, slot-that i is (s₀ .state) (withPhase (slotAt (w₀ .endpoint) i) (Process (takenRequest r)))) (carried-same 0 refl refl (fits (otherSlot i) (other-most i)))
+
+  pub take-carries : (i : ℕ) → Carries (take! i) w₀ log (byTake w₀ (taken (w₀ .endpoint) i))
+  unfolding taken
+  take-carries i = if-ind After (not (isSlot i)) (λ _. none) (λ h. from (slot-most i h) (phaseAt w₀ i) refl)
+    where
+      After : TakeDone → Type 0
+      After d = Carries (take! i) w₀ log (byTake w₀ d)
+      none : {n : ℕ} → Carries (take! i) w₀ log (stepped (number n) w₀)
+      none = record { turn-is = refl; last-is = refl; carried = λ j js. carried-same 0 refl refl (fits j js) }
+      row : i ≤ 1 → (r : Request) (t : Taking) → phaseAt w₀ i ≡ Process r → After (takenRow (w₀ .endpoint) i r t)
+      row is r Untaken p = took i is r p
+      row is r Taken p = none
+      from : i ≤ 1 → (p : Phase) → phaseAt w₀ i ≡ p → After (takenFrom (w₀ .endpoint) i p)
+      from is Idle p = none
+      from is (Receive a) p = none
+      from is (Process r) p = row is r (r .taking) p
+      from is (Answered r) p = none
+      from is (Transmit r) p = none
+
+  pub read-carries : (i : ℕ) → Carries (read i) w₀ log (step (read i) w₀)
+  unfolding step
+  read-carries i = record { turn-is = refl; last-is = refl; carried = λ j js. carried-same 0 refl refl (fits j js) }
+
+  -- ---- completing
+
+  finished : (i : ℕ) (t : Ticket) (body : List ℕ) → i ≤ 1 → (r : Request) → phaseAt w₀ i ≡ Process r
+      → Carries (complete i t body) w₀ log (byOutcome (outcome 0 (responded w₀ i r body)))
+  unfolding responded
+  finished i t body is r p = record { turn-is = refl; last-is = refl; carried = λ j js. at j js (which i j is js) }
+    where
+      v : Valid (w₀ .endpoint)
+      v = s₀ .state
+      s : Slot
+      s = withPhase (slotAt (w₀ .endpoint) i) (settled (slotAt (w₀ .endpoint) i .paused) (responseTo r body))
+      text : List ℕ
+      text = response (r .kind) i body
+      k : Asked r (storeAt w₀ i) (log i)
+      k = rw p at (fits i is .phase-fits)
+      n : length text ≡ length body + 8
+      n = length-response (r .kind) i body
+      text-is : text ≡ completing i body (log i) .response
+      text-is = rw (k .kind-is) (response-is i (log i .request) body is)
+      lies : take (length body + 8) (put (storeAt w₀ i) 0 text) ≡ text
+      lies = rw (sym n) (take-put (storeAt w₀ i) text)
+      this-one : Carried (false ≡ true) (slotAt (w₀ .endpoint) i) s (put (storeAt w₀ i) 0 text) (log i)
+          (transmitted (phaseAt w₀ i) (s .phase) (number 0) (completing i body (log i)))
+      this-one =
+          let b = slotAt (w₀ .endpoint) i .paused in
+          carried-settled (completing i body (log i)) 0 b (responseTo r body) (rw p refl) refl refl
+          (record { held = lies ∙ text-is; size = rw (sym text-is) n; to = k .from; under = k .under }) (fits i is .ticket-is)
+          (stayed refl (λ h. false-true (sym (settled-process b (responseTo r body)) ∙ h))) (worked r p (settled-begun b (responseTo r body) refl))
+      at : (j : ℕ) → j ≤ 1 → Which i j
+          → Carried (false ≡ true) (slotAt (w₀ .endpoint) j) (slotAt (withSlot (w₀ .endpoint) i s) j) (storeAt (withStore w₀ i (put (storeAt w₀ i) 0 text)) j) (log j)
+          (transmitted (phaseAt w₀ j) (slotAt (withSlot (w₀ .endpoint) i s) j .phase) (number 0) (commanded j (complete i t body) w₀ (number 0) (log j)))
+      at j js (this q) = rw (q, slot-this i is v s, store-this w₀ i is (put (storeAt w₀ i) 0 text), eq-eqb i i refl) this-one
+      at j js (that q) =
+          rw (q, slot-that i is v s, store-that w₀ i is (put (storeAt w₀ i) 0 text), ne-eqb i (otherSlot i) (λ e. other-differs i is (sym e)))
+          (carried-same 0 refl refl (fits (otherSlot i) (other-most i)))
+
+  pub complete-carries : (i : ℕ) (t : Ticket) (body : List ℕ) → Carries (complete i t body) w₀ log (byOutcome (completed w₀ i t body))
+  unfolding completed
+  complete-carries i t body =
+      if-ind After (wrongStores w₀) (λ _. none 40 refl) (λ _. if-ind After (not (isSlot i)) (λ _. none 30 refl) (λ h. into (slot-most i h) (phaseAt w₀ i) refl))
+    where
+      After : Outcome → Type 0
+      After o = Carries (complete i t body) w₀ log (byOutcome o)
+      none : (n : ℕ) → eqb n 0 ≡ false → Carries (complete i t body) w₀ log (stepped (number n) w₀)
+      none n e = record { turn-is = refl; last-is = refl; carried = λ j js. rw e (carried-same 0 refl refl (fits j js)) }
+      row : i ≤ 1 → (r : Request) (u : Taking) → phaseAt w₀ i ≡ Process r → After (completedRow w₀ i r body u)
+      row is r Untaken p = none 34 refl
+      row is r Taken p = if-ind After (not (isBody body)) (λ _. none 35 refl) (λ _. finished i t body is r p)
+      into : i ≤ 1 → (p : Phase) → phaseAt w₀ i ≡ p → After (completedIn w₀ i t body p)
+      into is Idle p = none 31 refl
+      into is (Receive a) p = none 31 refl
+      into is (Process r) p = if-ind After (not (eqb (t .0) (slotAt (w₀ .endpoint) i .ticket .0))) (λ _. none 32 refl) (λ _. row is r (r .taking) p)
+      into is (Answered r) p = none 31 refl
+      into is (Transmit r) p = none 31 refl
+
+  -- ---- timeout
+
+  receive-early : (p : Phase) → isReceive p ≡ true → isEarly p ≡ true
+  receive-early Idle h = refl
+  receive-early (Receive a) h = refl
+  receive-early (Process r) h = h
+  receive-early (Answered r) h = h
+  receive-early (Transmit r) h = h
+
+  pub timeout-carries : (i : ℕ) → Carries (timeout i) w₀ log (byDone w₀ (timedOut (w₀ .endpoint) i))
+  unfolding timedOut
+  timeout-carries i =
+      if-ind After (not (isSlot i)) (λ _. none)
+      (λ h.
+      if-ind After (not (isReceive (phaseAt w₀ i)) || slotAt (w₀ .endpoint) i .paused) (λ _. none)
+      (λ k.
+      record {
+        turn-is = refl;
+        last-is = refl;
+        carried = λ j js. at (slot-most i h) (receive-early (phaseAt w₀ i) (not-false (isReceive (phaseAt w₀ i)) (or-left _ _ k))) j js (which i j (slot-most i h) js);
+      }))
+    where
+      After : Done → Type 0
+      After d = Carries (timeout i) w₀ log (byDone w₀ d)
+      none : {n : ℕ} → Carries (timeout i) w₀ log (stepped (number n) w₀)
+      none = record { turn-is = refl; last-is = refl; carried = λ j js. carried-same 0 refl refl (fits j js) }
+      s : Slot
+      s = idled (slotAt (w₀ .endpoint) i)
+      at : i ≤ 1 → isEarly (phaseAt w₀ i) ≡ true → (j : ℕ) → j ≤ 1 → Which i j
+          → Carried (false ≡ true) (slotAt (w₀ .endpoint) j) (slotAt (withSlot (w₀ .endpoint) i s) j) (storeAt w₀ j) (log j)
+          (transmitted (phaseAt w₀ j) (slotAt (withSlot (w₀ .endpoint) i s) j .phase) (number 0) (log j))
+      at is early j js (this q) = rw (q, slot-this i is (s₀ .state) s) (carried-ended (storeAt w₀ i) 0 early refl refl (fits i is .ticket-is))
+      at is early j js (that q) = rw (q, slot-that i is (s₀ .state) s) (carried-same 0 refl refl (fits (otherSlot i) (other-most i)))
+
+  -- ---- reset: both slots are cut off, and keep their ticket counts
+
+  pub reset-carried : (j : ℕ) → j ≤ 1
+      → Carried (true ≡ true) (slotAt (w₀ .endpoint) j) (slotAt (wasReset (w₀ .endpoint) .endpoint) j) (storeAt w₀ j) (log j)
+      (transmitted (phaseAt w₀ j) (slotAt (wasReset (w₀ .endpoint) .endpoint) j .phase) (number 0) (log j))
+  unfolding wasReset
+  reset-carried zero js = carried-cut (storeAt w₀ 0) 0 refl refl refl (fits 0 js .ticket-is)
+  reset-carried (suc zero) js = carried-cut (storeAt w₀ 1) 0 refl refl refl (fits 1 js .ticket-is)
+  reset-carried (suc (suc n)) js = absurd (omega arith)

@@ -1,0 +1,227 @@
+-- How a slot, its store and the history's log of it fit together, and what one call may do to them.
+-- Assumes nothing.
+use Prim.Native.Nat.{ℕ, zero, suc, _+_, _-_, _*_, _/_, _%_, _^_, _≤_, _<_}
+use mathlib.Core.Path.{_≡_, refl, sym, ap, _∙_}
+use mathlib.Core.Bool.{Bool, true, false, not, _&&_, _||_}
+use mathlib.Core.List.{List, [], _∷_, _++_}
+use native.Mathlib.Nat.{mod-lt, mod-eq-of-lt, zero-lt-suc}
+use native.Mathlib.Omega.{arith}
+use lib.Dec.{eqb, ltb}
+use lib.ListN.{length, take}
+use borrow.Author.Tests.{ne-eqb}
+use Rattle.lent.specs.Choice.{if_then_else_}
+use Rattle.lent.specs.Bytes.{byteAt, isSet}
+use Rattle.nvme_mi.specs.Message.{messageHeader, isKnown, commandFault}
+use Rattle.nvme_mi.specs.Response.{response, faultBody}
+use Rattle.nvme_mi.specs.Check.{withCheck}
+use Rattle.nvme_mi.specs.declared.Fault.{Fault}
+use Rattle.nvme_mi.specs.declared.Fault.the-variants.{NoFault, Parameter, Failure}
+use Rattle.machine.specs.State.{World, settled}
+use Rattle.machine.specs.Wire.{unit}
+use Rattle.machine.specs.Calls.{Call, receive, Event, number}
+use Rattle.machine.specs.Valid.{phased, isBegun}
+use Rattle.machine.specs.History.{Log, isTransmit, kindOf, responseFor, leastLength, fixedAtEntry, isFor, gaining, entering, commanded, sending, transmitted}
+use Rattle.machine.specs.declared.Request.{Request}
+use Rattle.machine.specs.declared.Response.{Response}
+use Rattle.machine.specs.declared.Phase.{Phase}
+use Rattle.machine.specs.declared.Phase.the-variants.{Idle, Receive, Process, Answered, Transmit}
+use Rattle.machine.specs.declared.Slot.{Slot}
+use Rattle.machine.proofs.Slots.{isEarly, false-true}
+
+-- ---- the fit
+
+-- a command in Process: the store's front is the request, and the state has its kind, sender and tag
+pub record Asked (r : Request) (store : List ℕ) (l : Log) : Type 0 where
+  pub held : take (r .length) store ≡ l .request
+  pub kind-is : r .kind ≡ kindOf (l .request)
+  pub from : r .source ≡ l .requester
+  pub under : r .tag ≡ l .tag
+
+-- a response that is there: the store's front is the response of the last entry, to its requester under its tag
+pub record Full (r : Response) (store : List ℕ) (l : Log) : Type 0 where
+  pub held : take (r .length) store ≡ l .response
+  pub size : length (l .response) ≡ r .length
+  pub to : r .requester ≡ l .requester
+  pub under : r .tag ≡ l .tag
+
+pub record Going (r : Response) (store : List ℕ) (l : Log) : Type 0 where
+  pub full : Full r store l
+  pub paid : l .payloads ≡ take (unit * r .sent) (l .response)
+  pub count : l .packets ≡ r .sent
+
+abbrev pub FitP : Phase → List ℕ → Log → Type 0
+FitP Idle store l = Unit {0}
+FitP (Receive a) store l = take (a .length) store ≡ l .request
+FitP (Process r) store l = Asked r store l
+FitP (Answered r) store l = Full r store l
+FitP (Transmit r) store l = Going r store l
+
+pub record Fit (s : Slot) (store : List ℕ) (l : Log) : Type 0 where
+  pub phase-fits : FitP (s .phase) store l
+  pub ticket-is : s .ticket .0 ≡ l .entries % 2 ^ 32
+
+-- ---- what a call does to a slot's entries and request
+
+abbrev pub isProcess : Phase → Bool
+isProcess = phased false (λ a. false) (λ r. true) (λ r. false) (λ r. false)
+
+pub data Entry (p q : Phase) (l m : Log) : Type 0 where
+  entered : m .entries ≡ l .entries + 1 → Entry p q l m
+  stayed : m .entries ≡ l .entries → (isProcess q ≡ true → (isProcess p ≡ true) × (m .request ≡ l .request)) → Entry p q l m
+
+-- ---- what a call other than poll does to a slot's phase; C says that it cuts the slot off
+
+pub data Steady (C : Type 0) (p q : Phase) : Type 0 where
+  same : q ≡ p → Steady C p q
+  newly : isEarly p ≡ true → isBegun q ≡ false → Steady C p q
+  released : (r : Response) → p ≡ Answered r → q ≡ Transmit r → Steady C p q
+  worked : (r : Request) → p ≡ Process r → isBegun q ≡ false → Steady C p q
+  fell : C → q ≡ Idle → Steady C p q
+
+pub record Carried (C : Type 0) (s t : Slot) (store : List ℕ) (l m : Log) : Type 0 where
+  pub fit : Fit t store m
+  pub entry : Entry (s .phase) (t .phase) l m
+  pub steady : Steady C (s .phase) (t .phase)
+
+-- ---- what the log gains of a call that hands out no packet
+
+not-and : (b : Bool) → (not b && b) ≡ false
+not-and true = refl
+not-and false = refl
+
+and-false : (b : Bool) → (b && false) ≡ false
+and-false true = refl
+and-false false = refl
+
+pub quiet-same : (p q : Phase) (n : ℕ) (l : Log) → q ≡ p → transmitted p q (number n) l ≡ l
+quiet-same p q n l e = rw (e, not-and (isTransmit p)) refl
+
+pub quiet-other : (p q : Phase) (n : ℕ) (l : Log) → isTransmit q ≡ false → transmitted p q (number n) l ≡ l
+quiet-other p q n l e = rw (e, and-false (not (isTransmit p))) refl
+
+pub quiet-begins : (p q : Phase) (n : ℕ) (l : Log) → isTransmit p ≡ false → isTransmit q ≡ true → transmitted p q (number n) l ≡ sending l 0 []
+quiet-begins p q n l e f = rw (e, f) refl
+
+-- a refused packet adds nothing
+pub refusal-log : (j : ℕ) (p : List ℕ) (w : World) (n : ℕ) (l : Log) → 2 ≤ n → commanded j (receive p) w (number n) l ≡ l
+refusal-log j p w n l h = rw (ne-eqb n 0 (λ e. omega arith), ne-eqb n 1 (λ e. omega arith)) refl
+
+-- ---- a slot that a call leaves alone, or that falls back to Idle
+
+pub carried-same : {C : Type 0} {s t : Slot} {store : List ℕ} {l : Log} (n : ℕ) → t .phase ≡ s .phase → t .ticket ≡ s .ticket → Fit s store l
+    → Carried C s t store l (transmitted (s .phase) (t .phase) (number n) l)
+carried-same {C} {s} {t} {store} {l} n e k f =
+    rw (quiet-same (s .phase) (t .phase) n l e)
+    (record {
+      fit = record { phase-fits = rw e (f .phase-fits); ticket-is = rw k (f .ticket-is) };
+      entry = stayed refl (λ h. (rw e at h, refl));
+      steady = same e;
+    })
+
+idle-not : {q : Phase} → q ≡ Idle → isTransmit q ≡ false
+idle-not e = rw e refl
+
+idle-process : {A : Type 0} {q : Phase} → q ≡ Idle → isProcess q ≡ true → A
+idle-process e h = false-true (rw e at h)
+
+-- the store may have changed
+carried-idle : {C : Type 0} {s t : Slot} (store : List ℕ) {l : Log} (n : ℕ) → t .phase ≡ Idle → t .ticket ≡ s .ticket → s .ticket .0 ≡ l .entries % 2 ^ 32
+    → Steady C (s .phase) (t .phase) → Carried C s t store l (transmitted (s .phase) (t .phase) (number n) l)
+carried-idle {C} {s} {t} store {l} n e k f g =
+    rw (quiet-other (s .phase) (t .phase) n l (idle-not e))
+    (record {
+      fit = record { phase-fits = rw e tt; ticket-is = rw k f };
+      entry = stayed refl (λ h. idle-process e h);
+      steady = g;
+    })
+
+pub carried-ended : {C : Type 0} {s t : Slot} (store : List ℕ) {l : Log} (n : ℕ) → isEarly (s .phase) ≡ true → t .phase ≡ Idle → t .ticket ≡ s .ticket
+    → s .ticket .0 ≡ l .entries % 2 ^ 32 → Carried C s t store l (transmitted (s .phase) (t .phase) (number n) l)
+carried-ended store n early e k f = carried-idle store n e k f (newly early (rw e refl))
+
+pub carried-cut : {C : Type 0} {s t : Slot} (store : List ℕ) {l : Log} (n : ℕ) → C → t .phase ≡ Idle → t .ticket ≡ s .ticket
+    → s .ticket .0 ≡ l .entries % 2 ^ 32 → Carried C s t store l (transmitted (s .phase) (t .phase) (number n) l)
+carried-cut store n c e k f = carried-idle store n e k f (fell c e)
+
+-- Resume: a response that waited in Process goes to Transmit
+pub carried-released : {C : Type 0} {s t : Slot} {store : List ℕ} {l : Log} (n : ℕ) (r : Response) → s .phase ≡ Answered r → r .sent ≡ 0
+    → t .phase ≡ Transmit r → t .ticket ≡ s .ticket → Fit s store l → Carried C s t store l (transmitted (s .phase) (t .phase) (number n) l)
+carried-released {C} {s} {t} {store} {l} n r a z e k f =
+    let full : Full r store l = rw a at (f .phase-fits) in
+    rw (quiet-begins (s .phase) (t .phase) n l (rw a refl) (rw e refl))
+    (record {
+      fit =
+        record {
+          phase-fits = rw e (record { full = record { held = full .held; size = full .size; to = full .to; under = full .under }; paid = rw z refl; count = sym z });
+          ticket-is = rw k (f .ticket-is);
+        };
+      entry = stayed refl (λ h. false-true (rw e at h));
+      steady = released r a e;
+    })
+
+-- ---- the response in the document's words is the machine's
+
+one-bit : (i : ℕ) → i ≤ 1 → i % 2 ≡ i
+one-bit i h = mod-eq-of-lt (omega arith)
+
+pub response-is : (i : ℕ) (request body : List ℕ) → i ≤ 1 → response (kindOf request) i body ≡ responseFor i request body
+unfolding response
+response-is i request body h =
+    let four : kindOf request % 16 ≡ kindOf request = mod-eq-of-lt (mod-lt (byteAt request 1 / 8) (zero-lt-suc 15)) in
+    rw (one-bit i h, four) refl
+
+abbrev pub atEntry : ℕ → List ℕ → Fault → List ℕ
+atEntry i request NoFault = []
+atEntry i request (Parameter byte bit) = responseFor i request (faultBody (Parameter byte bit))
+atEntry i request (Failure status) = responseFor i request (faultBody (Failure status))
+
+by-tests : (i : ℕ) (request : List ℕ) (a b c : Bool)
+    → (if a then responseFor i request (4 ∷ 3 ∷ 1 ∷ 0 ∷ []) else if b then responseFor i request (4 ∷ 0 ∷ 2 ∷ 0 ∷ []) else if c then responseFor i request (5 ∷ 0 ∷ 0 ∷ 0 ∷ []) else [])
+    ≡ atEntry i request (if a then Parameter 1 3 else if b then Parameter 2 0 else if c then Failure 5 else NoFault)
+by-tests i request true b c = refl
+by-tests i request false true c = refl
+by-tests i request false false true = refl
+by-tests i request false false false = refl
+
+-- what is fixed at entry is what the tests there say
+pub fixed-is : (i : ℕ) (request : List ℕ) → fixedAtEntry i request ≡ atEntry i request (commandFault (messageHeader request) (length request))
+unfolding commandFault
+fixed-is i request =
+    by-tests i request (not (isKnown (kindOf request))) (isSet (byteAt request 2) 0) (ltb (length request) (leastLength (kindOf request)))
+
+-- ---- a response that is there for the first time
+
+entry-sending : {p q : Phase} {l m : Log} → Entry p q l m → Entry p q l (sending m 0 [])
+entry-sending (entered e) = entered e
+entry-sending (stayed e f) = stayed e f
+
+-- it goes to Transmit at once, unless the slot's own flag is set
+pub carried-settled : {C : Type 0} {s t : Slot} {store : List ℕ} {l : Log} (m : Log) (n : ℕ) (b : Bool) (r : Response) → isTransmit (s .phase) ≡ false
+    → t .phase ≡ settled b r → r .sent ≡ 0 → Full r store m → t .ticket .0 ≡ m .entries % 2 ^ 32 → Entry (s .phase) (t .phase) l m → Steady C (s .phase) (t .phase)
+    → Carried C s t store l (transmitted (s .phase) (t .phase) (number n) m)
+carried-settled {C} {s} {t} {store} {l} m n true r a e z f k y g =
+    rw (quiet-other (s .phase) (t .phase) n m (rw e refl))
+    (record { fit = record { phase-fits = rw e f; ticket-is = k }; entry = y; steady = g })
+carried-settled {C} {s} {t} {store} {l} m n false r a e z f k y g =
+    rw (quiet-begins (s .phase) (t .phase) n m a (rw e refl))
+    (record {
+      fit =
+        record {
+          phase-fits = rw e (record { full = record { held = f .held; size = f .size; to = f .to; under = f .under }; paid = rw z refl; count = sym z });
+          ticket-is = k;
+        };
+      entry = entry-sending y;
+      steady = g;
+    })
+
+pub settled-begun : (b : Bool) (r : Response) → r .sent ≡ 0 → isBegun (settled b r) ≡ false
+settled-begun true r z = refl
+settled-begun false r z = rw z refl
+
+pub settled-process : (b : Bool) (r : Response) → isProcess (settled b r) ≡ false
+settled-process true r = refl
+settled-process false r = refl
+
+-- the ticket count and the entries rise together
+pub next-ticket : (t e : ℕ) → t ≡ e % 2 ^ 32 → (t + 1) % 2 ^ 32 ≡ (e + 1) % 2 ^ 32
+next-ticket t e h = rw h (omega arith)

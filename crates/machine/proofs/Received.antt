@@ -1,0 +1,643 @@
+-- What receiving a packet does to each slot, its store and its log.
+-- Assumes nothing.
+use Prim.Native.Nat.{ℕ, zero, suc, _+_, _-_, _*_, _/_, _%_, _^_, _≤_, _<_}
+use mathlib.Core.Path.{_≡_, refl, sym, ap, _∙_}
+use mathlib.Core.Bool.{Bool, true, false, not, _&&_, _||_}
+use mathlib.Core.List.{List, [], _∷_, _++_}
+use native.Mathlib.Omega.{arith}
+use lib.Dec.{eqb, ltb}
+use lib.ListN.{length, take, drop, length-drop}
+use lib.Seq.{getD-drop, length-take-le}
+use borrow.Author.Tests.{eq-eqb, ne-eqb, eqb-true, ltb-false, not-false}
+use Rattle.lent.specs.Choice.{if_then_else_}
+use Rattle.lent.specs.Bytes.{byteAt, isSet, put}
+use Rattle.lent.proofs.Choice.{if-ind, if-second}
+use Rattle.lent.proofs.Stores.{length-put, take-put}
+use Rattle.mctp.specs.Header.{fields, payloadOf, readHeader}
+use Rattle.mctp.specs.declared.Header.{Header}
+use Rattle.nvme_mi.specs.Message.{messageHeader, commandFault, controlFault}
+use Rattle.nvme_mi.specs.Response.{response, faultBody}
+use Rattle.nvme_mi.proofs.Laws.{length-response}
+use Rattle.nvme_mi.specs.declared.MessageHeader.{MessageHeader}
+use Rattle.nvme_mi.specs.declared.Fault.{Fault}
+use Rattle.nvme_mi.specs.declared.Fault.the-variants.{NoFault, Parameter, Failure}
+use Rattle.machine.specs.State.{World, Outcome, outcome, slotAt, storeAt, withSlot, withStore, withEndpoint, onSlot, withPhase, withBusy, idled, isIdle, settled, nextTicket}
+use Rattle.machine.specs.Wire.{unit, store-size, smallest, opcodeOf, clearsFlags}
+use Rattle.machine.specs.Control.{pausedSlot, pause, resumedSlot, released as releasedPhase, resume, abort, clearFlags, primitive, controlledBy, controlled}
+use Rattle.machine.specs.Process.{request, processing, responseTo, responded, respondedAtOnce, pausedIf, entered as enteredWorld}
+use Rattle.machine.specs.Receive.{refused, refusedBusy, dropped, gathers, isFrom, endedSlot, endAssembly, received}
+use Rattle.machine.specs.Poll.{otherSlot}
+use Rattle.machine.specs.Valid.{Valid, Sound, PhaseFacts}
+use Rattle.machine.specs.Calls.{Call, receive, Event, number, Stepped, byOutcome}
+use Rattle.machine.specs.History.{Log, History, phaseAt, hasSom, sourceOf, messageTagOf, receivesFrom, isTransmit, isFor, requestWith, kindOf, responseFor, fixedAtEntry, gaining, entering, commanded, transmitted, logAfter, isAbort, cuts}
+use Rattle.machine.specs.declared.Assembly.{Assembly}
+use Rattle.machine.specs.declared.Request.{Request}
+use Rattle.machine.specs.declared.Response.{Response}
+use Rattle.machine.specs.declared.Phase.{Phase}
+use Rattle.machine.specs.declared.Phase.the-variants.{Idle, Receive, Process, Answered, Transmit}
+use Rattle.machine.specs.declared.Slot.{Slot}
+use Rattle.machine.specs.declared.Endpoint.{Endpoint}
+use Rattle.machine.specs.declared.Acted.{Acted}
+use Rattle.machine.proofs.Slots.{isEarly, false-true, facts-at, from-same, other-most}
+use Rattle.machine.proofs.Receiving.{Origin, opens, goes-on, Joining, filled, grown, whole, Controls, Walk, read-facts, csi-most, walked}
+use Rattle.machine.proofs.Keeps.{received-sound, sound-endpoint, sound-store, store-at, kept-quiet, pause-valid, end-valid}
+use Rattle.machine.proofs.Places.{Which, this, that, which, other-differs, slot-this, slot-that, slot-both, store-this, store-that, take-joined}
+use Rattle.machine.proofs.Fits.{Asked, Full, Fit, FitP, Entry, entered, stayed, isProcess, Steady, same, newly, released, worked, fell, Carried, quiet-same, quiet-other, refusal-log, carried-same, carried-ended, carried-cut, carried-released, carried-settled, settled-begun, settled-process, next-ticket, response-is, atEntry, fixed-is}
+
+-- what a call does to both slots, with the logs before it, and to what polling goes by
+pub record Carries (c : Call) (w : World) (log : ℕ → Log) (s : Stepped) : Type 0 where
+  pub turn-is : s .world .endpoint .turn ≡ w .endpoint .turn
+  pub last-is : s .world .endpoint .«last_control» ≡ w .endpoint .«last_control»
+  pub carried : (j : ℕ) → j ≤ 1
+      → Carried (cuts j c w ≡ true) (slotAt (w .endpoint) j) (slotAt (s .world .endpoint) j) (storeAt (s .world) j) (log j) (logAfter j c w s (log j))
+
+module _ (w₀ : World) (packet : List ℕ) (log : ℕ → Log) (s₀ : Sound w₀)
+    (fits : (j : ℕ) → j ≤ 1 → Fit (slotAt (w₀ .endpoint) j) (storeAt w₀ j) (log j)) where
+
+  abbrev eid₀ : ℕ
+  eid₀ = w₀ .endpoint .eid
+
+  -- on the way through Receiving: a slot is as it was, or its assembly has ended
+  data MidPhase (p q : Phase) : Type 0 where
+    kept : q ≡ p → MidPhase p q
+    ended : hasSom packet ≡ true → isEarly p ≡ true → q ≡ Idle → MidPhase p q
+
+  record Mid (w : World) : Type 0 where
+    sound : Sound w
+    turn-is : w .endpoint .turn ≡ w₀ .endpoint .turn
+    last-is : w .endpoint .«last_control» ≡ w₀ .endpoint .«last_control»
+    stores : (j : ℕ) → storeAt w j ≡ storeAt w₀ j
+    tickets : (j : ℕ) → j ≤ 1 → slotAt (w .endpoint) j .ticket ≡ slotAt (w₀ .endpoint) j .ticket
+    phases : (j : ℕ) → j ≤ 1 → MidPhase (phaseAt w₀ j) (phaseAt w j)
+
+  abbrev Ends : Outcome → Type 0
+  Ends o = Carries (receive packet) w₀ log (byOutcome o)
+
+  abbrev Cut : ℕ → Type 0
+  Cut j = isAbort j eid₀ packet ≡ true
+
+  -- the log with answer n, where the packet adds nothing to slot j's command
+  abbrev quietly : ℕ → ℕ → Slot → Log
+  quietly j n t = transmitted (phaseAt w₀ j) (t .phase) (number n) (log j)
+
+  -- a slot that only went through the way's beginning
+  mid-carried : (w : World) → Mid w → (n j : ℕ) → j ≤ 1 → (t : Slot) → t .phase ≡ phaseAt w j → t .ticket ≡ slotAt (w .endpoint) j .ticket
+      → Carried (Cut j) (slotAt (w₀ .endpoint) j) t (storeAt w₀ j) (log j) (quietly j n t)
+  mid-carried w m n j js t e k = go (m .phases j js)
+    where
+      go : MidPhase (phaseAt w₀ j) (phaseAt w j) → Carried (Cut j) (slotAt (w₀ .endpoint) j) t (storeAt w₀ j) (log j) (quietly j n t)
+      go (kept q) = carried-same n (e ∙ q) (k ∙ m .tickets j js) (fits j js)
+      go (ended _ early q) = carried-ended (storeAt w₀ j) n early (e ∙ q) (k ∙ m .tickets j js) (fits j js .ticket-is)
+
+  -- an early slot on the way was early before
+  was-early : (w : World) → Mid w → (j : ℕ) → j ≤ 1 → isEarly (phaseAt w j) ≡ true → isEarly (phaseAt w₀ j) ≡ true
+  was-early w m j js h = go (m .phases j js)
+    where
+      go : MidPhase (phaseAt w₀ j) (phaseAt w j) → isEarly (phaseAt w₀ j) ≡ true
+      go (kept q) = rw (sym q) h
+      go (ended _ early q) = early
+
+  refusing : (w : World) (n : ℕ) → 3 ≤ n → Mid w → Ends (refused w n)
+  unfolding refused
+  refusing w n h m =
+      record {
+        turn-is = m .turn-is;
+        last-is = m .last-is;
+        carried = λ j js. rw (refusal-log j packet w₀ n (log j) (omega arith), m .stores j) (mid-carried w m n j js (slotAt (w .endpoint) j) refl refl);
+      }
+
+  -- only slot i and its store change
+  abbrev LogOf : ℕ → ℕ → Slot → Log
+  LogOf j n t = transmitted (phaseAt w₀ j) (t .phase) (number n) (commanded j (receive packet) w₀ (number n) (log j))
+
+  pub record OneSlot (w : World) (i : ℕ) (o : Outcome) : Type 0 where
+    pub turn-same : o .world .endpoint .turn ≡ w .endpoint .turn
+    pub last-same : o .world .endpoint .«last_control» ≡ w .endpoint .«last_control»
+    pub that-phase : slotAt (o .world .endpoint) (otherSlot i) .phase ≡ phaseAt w (otherSlot i)
+    pub that-ticket : slotAt (o .world .endpoint) (otherSlot i) .ticket ≡ slotAt (w .endpoint) (otherSlot i) .ticket
+    pub that-store : storeAt (o .world) (otherSlot i) ≡ storeAt w (otherSlot i)
+    pub that-log : commanded (otherSlot i) (receive packet) w₀ (number (o .answer)) (log (otherSlot i)) ≡ log (otherSlot i)
+    pub this-slot : Carried (Cut i) (slotAt (w₀ .endpoint) i) (slotAt (o .world .endpoint) i) (storeAt (o .world) i) (log i)
+        (LogOf i (o .answer) (slotAt (o .world .endpoint) i))
+
+  one-slot : (w : World) (i : ℕ) (o : Outcome) → i ≤ 1 → Mid w → OneSlot w i o → Ends o
+  one-slot w i o is m k =
+      record {
+        turn-is = k .turn-same ∙ m .turn-is;
+        last-is = k .last-same ∙ m .last-is;
+        carried = λ j js. at j js (which i j is js);
+      }
+    where
+      that-one : otherSlot i ≤ 1 → Carried (Cut (otherSlot i)) (slotAt (w₀ .endpoint) (otherSlot i)) (slotAt (o .world .endpoint) (otherSlot i))
+          (storeAt (o .world) (otherSlot i)) (log (otherSlot i)) (LogOf (otherSlot i) (o .answer) (slotAt (o .world .endpoint) (otherSlot i)))
+      that-one js =
+          rw (k .that-log, k .that-store, m .stores (otherSlot i))
+          (mid-carried w m (o .answer) (otherSlot i) js (slotAt (o .world .endpoint) (otherSlot i)) (k .that-phase) (k .that-ticket))
+      at : (j : ℕ) → j ≤ 1 → Which i j → Carried (Cut j) (slotAt (w₀ .endpoint) j) (slotAt (o .world .endpoint) j) (storeAt (o .world) j) (log j) (LogOf j (o .answer) (slotAt (o .world .endpoint) j))
+      at j js (this e) = rw e (k .this-slot)
+      at j js (that e) = rw e (that-one (rw e at js))
+
+  busying : (w : World) (i : ℕ) → i ≤ 1 → Mid w → Ends (refusedBusy w i)
+  unfolding refusedBusy
+  busying w i is m =
+      let v = m .sound .state in
+      let s = withBusy (slotAt (w .endpoint) i) true in
+      let a : slotAt (withSlot (w .endpoint) i s) i ≡ s = slot-this i is v s in
+      let b : slotAt (withSlot (w .endpoint) i s) (otherSlot i) ≡ slotAt (w .endpoint) (otherSlot i) = slot-that i is v s in
+      one-slot w i (refusedBusy w i) is m
+      (record {
+        turn-same = refl;
+        last-same = refl;
+        that-phase = rw b refl;
+        that-ticket = rw b refl;
+        that-store = refl;
+        that-log = refl;
+        this-slot = rw (a, m .stores i) (mid-carried w m 20 i is s refl refl);
+      })
+
+  dropping : (w : World) (i n : ℕ) → 3 ≤ n → i ≤ 1 → isEarly (phaseAt w i) ≡ true → Mid w → Ends (refused (dropped w i) n)
+  unfolding refused
+  dropping w i n h is early m =
+      let v = m .sound .state in
+      let s = idled (slotAt (w .endpoint) i) in
+      let a : slotAt (withSlot (w .endpoint) i s) i ≡ s = slot-this i is v s in
+      let b : slotAt (withSlot (w .endpoint) i s) (otherSlot i) ≡ slotAt (w .endpoint) (otherSlot i) = slot-that i is v s in
+      one-slot w i (refused (dropped w i) n) is m
+      (record {
+        turn-same = refl;
+        last-same = refl;
+        that-phase = rw b refl;
+        that-ticket = rw b refl;
+        that-store = refl;
+        that-log = refusal-log (otherSlot i) packet w₀ n (log (otherSlot i)) (omega arith);
+        this-slot =
+          rw (a, refusal-log i packet w₀ n (log i) (omega arith))
+          (carried-ended (storeAt w i) n (was-early w m i is early) refl (m .tickets i is) (fits i is .ticket-is));
+      })
+
+  failing : (w : World) (i at : ℕ) → Joining eid₀ packet w i at → Mid w → Ends (refused (dropped (filled eid₀ packet w i at) i) 19)
+  unfolding refused
+  failing w i at j m =
+      let v = m .sound .state in
+      let is = j .slot-is in
+      let s = idled (slotAt (w .endpoint) i) in
+      let a : slotAt (withSlot (w .endpoint) i s) i ≡ s = slot-this i is v s in
+      let b : slotAt (withSlot (w .endpoint) i s) (otherSlot i) ≡ slotAt (w .endpoint) (otherSlot i) = slot-that i is v s in
+      one-slot w i (refused (dropped (filled eid₀ packet w i at) i) 19) is m
+      (record {
+        turn-same = refl;
+        last-same = refl;
+        that-phase = rw b refl;
+        that-ticket = rw b refl;
+        that-store = store-that w i is _;
+        that-log = refl;
+        this-slot = rw a (carried-ended _ 19 (was-early w m i is (j .early)) refl (m .tickets i is) (fits i is .ticket-is));
+      })
+
+  -- ---- a command's packet
+
+  receives-gathers : (source tag : ℕ) (p : Phase) → receivesFrom source tag p ≡ gathers source tag p
+  receives-gathers source tag Idle = refl
+  receives-gathers source tag (Receive a) = refl
+  receives-gathers source tag (Process r) = refl
+  receives-gathers source tag (Answered r) = refl
+  receives-gathers source tag (Transmit r) = refl
+
+  -- without SOM no assembly has ended
+  phase-before : (w : World) → Mid w → (j : ℕ) → j ≤ 1 → hasSom packet ≡ false → phaseAt w j ≡ phaseAt w₀ j
+  phase-before w m j js som = go (m .phases j js)
+    where
+      go : MidPhase (phaseAt w₀ j) (phaseAt w j) → phaseAt w j ≡ phaseAt w₀ j
+      go (kept q) = q
+      go (ended with-som _ _) = false-true (sym som ∙ with-som)
+
+  csi-is : byteAt packet 5 % 2 ≡ byteAt (payloadOf packet) 1 % 2
+  csi-is = rw (getD-drop 4 packet 1 0) refl
+
+  for-this : (w : World) (i at : ℕ) → Mid w → Joining eid₀ packet w i at → isFor i packet w₀ ≡ true
+  for-this w i at m j = go (j .origin)
+    where
+      go : {n : ℕ} → Origin eid₀ packet w i n → isFor i packet w₀ ≡ true
+      go (opens som e) = rw som (eq-eqb (byteAt packet 5 % 2) i (csi-is ∙ sym e))
+      go (goes-on som a ph fr) =
+          rw (som, receives-gathers (sourceOf packet) (messageTagOf packet) (phaseAt w₀ i), sym (phase-before w m i (j .slot-is) som), ph) fr
+
+  for-that : (w : World) (i at : ℕ) → Mid w → Joining eid₀ packet w i at → isFor (otherSlot i) packet w₀ ≡ false
+  for-that w i at m j = go (j .origin)
+    where
+      go : {n : ℕ} → Origin eid₀ packet w i n → isFor (otherSlot i) packet w₀ ≡ false
+      go (opens som e) = rw som (ne-eqb (byteAt packet 5 % 2) (otherSlot i) (λ k. other-differs i (j .slot-is) (sym k ∙ csi-is ∙ sym e)))
+      go (goes-on som a ph fr) =
+          rw (som, receives-gathers (sourceOf packet) (messageTagOf packet) (phaseAt w₀ (otherSlot i)), sym (phase-before w m (otherSlot i) (other-most i) som)) (j .alone)
+
+  that-gains : (w : World) (i at : ℕ) → Mid w → Joining eid₀ packet w i at → (n : ℕ)
+      → commanded (otherSlot i) (receive packet) w₀ (number n) (log (otherSlot i)) ≡ log (otherSlot i)
+  that-gains w i at m j n = rw (for-that w i at m j) (none (eqb n 0) (eqb n 1))
+    where
+      none : (a b : Bool) → (if a && false then gaining packet (log (otherSlot i)) else if b && false then entering (otherSlot i) packet (log (otherSlot i)) else log (otherSlot i)) ≡ log (otherSlot i)
+      none true true = refl
+      none true false = refl
+      none false true = refl
+      none false false = refl
+
+  -- the store's front is then the request so far
+  front : (w : World) (i at : ℕ) → Mid w → Joining eid₀ packet w i at → whole eid₀ packet w i at ≡ requestWith packet (log i)
+  front w i at m j = rw (store-this w i (j .slot-is) (put (storeAt w i) at (payloadOf packet))) (go (j .fits) (j .origin))
+    where
+      room : {n : ℕ} → n + length (payloadOf packet) ≤ store-size → n ≤ length (storeAt w i)
+      room h = rw (store-at i (m .sound)) (omega arith)
+      go : {n : ℕ} → n + length (payloadOf packet) ≤ store-size → Origin eid₀ packet w i n → take (n + length (payloadOf packet)) (put (storeAt w i) n (payloadOf packet)) ≡ requestWith packet (log i)
+      go h (opens som e) = rw som (take-joined (storeAt w i) 0 (payloadOf packet) (room h))
+      go h (goes-on som a ph fr) =
+          let before : take (a .length) (storeAt w₀ i) ≡ log i .request =
+                rw (sym (phase-before w m i (j .slot-is) som) ∙ ph) at (fits i (j .slot-is) .phase-fits) in
+          rw som (take-joined (storeAt w i) (a .length) (payloadOf packet) (room h) ∙ rw (m .stores i, before) refl)
+
+  gain : (w : World) (i at : ℕ) → Joining eid₀ packet w i at → unit ≤ at + length (payloadOf packet) → Mid w
+      → Ends (outcome 0 (onSlot (filled eid₀ packet w i at) i (withPhase (slotAt (w .endpoint) i) (Receive (grown eid₀ packet at)))))
+  gain w i at j lo m =
+      let v = m .sound .state in
+      let is = j .slot-is in
+      let s = withPhase (slotAt (w .endpoint) i) (Receive (grown eid₀ packet at)) in
+      let a : slotAt (withSlot (w .endpoint) i s) i ≡ s = slot-this i is v s in
+      let b : slotAt (withSlot (w .endpoint) i s) (otherSlot i) ≡ slotAt (w .endpoint) (otherSlot i) = slot-that i is v s in
+      one-slot w i (outcome 0 (onSlot (filled eid₀ packet w i at) i s)) is m
+      (record {
+        turn-same = refl;
+        last-same = refl;
+        that-phase = rw b refl;
+        that-ticket = rw b refl;
+        that-store = store-that w i is _;
+        that-log = that-gains w i at m j 0;
+        this-slot =
+          rw (a, for-this w i at m j, quiet-other (phaseAt w₀ i) (Receive (grown eid₀ packet at)) 0 (gaining packet (log i)) refl)
+          (record {
+            fit = record { phase-fits = front w i at m j; ticket-is = rw (m .tickets i is) (fits i is .ticket-is) };
+            entry = stayed refl (λ h. false-true h);
+            steady = newly (was-early w m i is (j .early)) refl;
+          });
+      })
+
+  -- ---- the command is whole
+
+  early-silent : (p : Phase) → isEarly p ≡ true → isTransmit p ≡ false
+  early-silent Idle h = refl
+  early-silent (Receive a) h = refl
+  early-silent (Process r) h = refl
+  early-silent (Answered r) h = refl
+  early-silent (Transmit r) h = sym h
+
+  -- Pause leaves phases and tickets
+  pause-slot : (s : Slot) → (pausedSlot s .phase ≡ s .phase) × (pausedSlot s .ticket ≡ s .ticket)
+  pause-slot s = if-ind (λ (x : Slot). (x .phase ≡ s .phase) × (x .ticket ≡ s .ticket)) (isIdle (s .phase)) (λ _. (refl, refl)) (λ _. (refl, refl))
+
+  pub record Alike (e f : Endpoint) : Type 0 where
+    pub same-phase : (j : ℕ) → j ≤ 1 → slotAt f j .phase ≡ slotAt e j .phase
+    pub same-ticket : (j : ℕ) → j ≤ 1 → slotAt f j .ticket ≡ slotAt e j .ticket
+    pub same-turn : f .turn ≡ e .turn
+    pub same-last : f .«last_control» ≡ e .«last_control»
+
+  pause-alike : (e : Endpoint) → Alike e (pause e)
+  unfolding pause
+  pause-alike e =
+      record {
+        same-phase = λ j js. rw (slot-both pausedSlot e j js) (pause-slot (slotAt e j) .0);
+        same-ticket = λ j js. rw (slot-both pausedSlot e j js) (pause-slot (slotAt e j) .1);
+        same-turn = refl;
+        same-last = refl;
+      }
+
+  itself : (e : Endpoint) → Alike e e
+  itself e = record { same-phase = λ j js. refl; same-ticket = λ j js. refl; same-turn = refl; same-last = refl }
+
+  paused-alike : (b : Bool) (e : Endpoint) → Alike e (pausedIf b e)
+  paused-alike b e = if-ind (Alike e) b (λ _. pause-alike e) (λ _. itself e)
+
+  module _ (w : World) (i at : ℕ) (j : Joining eid₀ packet w i at) (lo : smallest ≤ at + length (payloadOf packet)) (m : Mid w) where
+    abbrev asked : List ℕ
+    asked = requestWith packet (log i)
+
+    abbrev mh : MessageHeader
+    mh = messageHeader (whole eid₀ packet w i at)
+
+    abbrev command : Request
+    command = request (grown eid₀ packet at) mh
+
+    abbrev e₁ : Endpoint
+    e₁ = withSlot (w .endpoint) i (processing (slotAt (w .endpoint) i) command)
+
+    abbrev e₂ : Endpoint
+    e₂ = pausedIf (mh .ciap) e₁
+
+    abbrev w₂ : World
+    w₂ = withEndpoint (filled eid₀ packet w i at) e₂
+
+    e₁-valid : Valid e₁
+    e₁-valid = kept-quiet i (j .slot-is) (m .sound .state) (processing (slotAt (w .endpoint) i) command) (lo, j .fits) refl
+
+    e₂-valid : Valid e₂
+    e₂-valid = if-ind Valid (mh .ciap) (λ _. pause-valid e₁-valid) (λ _. e₁-valid)
+
+    alike : Alike e₁ e₂
+    alike = paused-alike (mh .ciap) e₁
+
+    this-at : slotAt e₁ i ≡ processing (slotAt (w .endpoint) i) command
+    this-at = slot-this i (j .slot-is) (m .sound .state) (processing (slotAt (w .endpoint) i) command)
+
+    that-at : slotAt e₁ (otherSlot i) ≡ slotAt (w .endpoint) (otherSlot i)
+    that-at = slot-that i (j .slot-is) (m .sound .state) (processing (slotAt (w .endpoint) i) command)
+
+    in-process : slotAt e₂ i .phase ≡ Process command
+    in-process = alike .same-phase i (j .slot-is) ∙ rw this-at refl
+
+    that-phase : slotAt e₂ (otherSlot i) .phase ≡ phaseAt w (otherSlot i)
+    that-phase = alike .same-phase (otherSlot i) (other-most i) ∙ rw that-at refl
+
+    that-ticket : slotAt e₂ (otherSlot i) .ticket ≡ slotAt (w .endpoint) (otherSlot i) .ticket
+    that-ticket = alike .same-ticket (otherSlot i) (other-most i) ∙ rw that-at refl
+
+    ticket-next : slotAt e₂ i .ticket .0 ≡ (log i .entries + 1) % 2 ^ 32
+    ticket-next =
+        let t : slotAt e₂ i .ticket ≡ nextTicket (slotAt (w₀ .endpoint) i .ticket) =
+              alike .same-ticket i (j .slot-is) ∙ rw (this-at, m .tickets i (j .slot-is)) refl in
+        rw t (next-ticket (slotAt (w₀ .endpoint) i .ticket .0) (log i .entries) (fits i (j .slot-is) .ticket-is))
+
+    whole-is : whole eid₀ packet w i at ≡ asked
+    whole-is = front w i at m j
+
+    size-is : at + length (payloadOf packet) ≡ length asked
+    size-is =
+        let room : at + length (payloadOf packet) ≤ length (storeAt (filled eid₀ packet w i at) i) =
+              rw (store-this w i (j .slot-is) (put (storeAt w i) at (payloadOf packet)), length-put (storeAt w i) at (payloadOf packet) fit, store-at i (m .sound)) (j .fits) in
+        rw (sym whole-is) (sym (length-take-le (at + length (payloadOf packet)) (storeAt (filled eid₀ packet w i at) i) room))
+      where
+        fit : at + length (payloadOf packet) ≤ length (storeAt w i)
+        fit = rw (store-at i (m .sound)) (j .fits)
+
+    was : isEarly (phaseAt w₀ i) ≡ true
+    was = was-early w m i (j .slot-is) (j .early)
+
+    -- it waits to be taken
+    waits : Ends (outcome 1 w₂)
+    waits =
+        one-slot w i (outcome 1 w₂) (j .slot-is) m
+        (record {
+          turn-same = alike .same-turn;
+          last-same = alike .same-last;
+          that-phase = that-phase;
+          that-ticket = that-ticket;
+          that-store = store-that w i (j .slot-is) _;
+          that-log = that-gains w i at m j 1;
+          this-slot =
+            rw (for-this w i at m j, quiet-other (phaseAt w₀ i) (slotAt e₂ i .phase) 1 (entering i packet (log i)) (rw in-process refl))
+            (record {
+              fit =
+                record {
+                  phase-fits = rw in-process (record { held = whole-is; kind-is = rw whole-is refl; from = refl; under = refl });
+                  ticket-is = ticket-next;
+                };
+              entry = entered refl;
+              steady = newly was (rw in-process refl);
+            });
+        })
+
+    -- or it is answered at once
+    answered : (body : List ℕ) → fixedAtEntry i asked ≡ responseFor i asked body → Ends (outcome 1 (responded w₂ i command body))
+    unfolding responded
+    answered body fixed =
+        let is = j .slot-is in
+        let b = slotAt e₂ i .paused in
+        let r = responseTo command body in
+        let s = withPhase (slotAt e₂ i) (settled b r) in
+        let a : slotAt (withSlot e₂ i s) i ≡ s = slot-this i is e₂-valid s in
+        let c : slotAt (withSlot e₂ i s) (otherSlot i) ≡ slotAt e₂ (otherSlot i) = slot-that i is e₂-valid s in
+        let text = response (command .kind) i body in
+        let stored : storeAt (withStore w₂ i (put (storeAt w₂ i) 0 text)) i ≡ put (storeAt w₂ i) 0 text = store-this w₂ i is (put (storeAt w₂ i) 0 text) in
+        let n : length text ≡ length body + 8 = length-response (command .kind) i body in
+        let text-is : text ≡ fixedAtEntry i asked = rw whole-is (response-is i asked body is) ∙ sym fixed in
+        let lies : take (length body + 8) (put (storeAt w₂ i) 0 text) ≡ text = rw (sym n) (take-put (storeAt w₂ i) text) in
+        one-slot w i (outcome 1 (responded w₂ i command body)) is m
+        (record {
+          turn-same = alike .same-turn;
+          last-same = alike .same-last;
+          that-phase = rw c that-phase;
+          that-ticket = rw c that-ticket;
+          that-store = store-that w₂ i is (put (storeAt w₂ i) 0 text) ∙ store-that w i is _;
+          that-log = that-gains w i at m j 1;
+          this-slot =
+            rw (a, for-this w i at m j)
+            (carried-settled (entering i packet (log i)) 1 b r (early-silent (phaseAt w₀ i) was) refl refl
+            (record { held = rw stored (lies ∙ text-is); size = rw (sym text-is) n; to = refl; under = refl }) ticket-next (entered refl)
+            (newly was (settled-begun b r refl)));
+        })
+
+    at-once : (f : Fault) → commandFault mh (at + length (payloadOf packet)) ≡ f → Ends (outcome 1 (respondedAtOnce w₂ i command f))
+    at-once f e = let k : commandFault (messageHeader asked) (length asked) ≡ f = rw (whole-is, size-is) at e in go f (fixed-is i asked ∙ ap (atEntry i asked) k)
+      where
+        go : (f : Fault) → fixedAtEntry i asked ≡ atEntry i asked f → Ends (outcome 1 (respondedAtOnce w₂ i command f))
+        go NoFault k = waits
+        go (Parameter byte bit) k = answered (faultBody (Parameter byte bit)) k
+        go (Failure status) k = answered (faultBody (Failure status)) k
+
+  enter : (w : World) (i at : ℕ) → Joining eid₀ packet w i at → smallest ≤ at + length (payloadOf packet) → Mid w
+      → Ends (outcome 1 (enteredWorld (filled eid₀ packet w i at) i (grown eid₀ packet at) (messageHeader (whole eid₀ packet w i at))))
+  unfolding enteredWorld
+  enter w i at j lo m = at-once w i at j lo m (commandFault (messageHeader (whole eid₀ packet w i at)) (at + length (payloadOf packet))) refl
+
+  -- ---- a control primitive
+
+  pub record Acts (w : World) (a : Acted) : Type 0 where
+    pub turn-same : a .endpoint .turn ≡ w .endpoint .turn
+    pub last-same : a .endpoint .«last_control» ≡ w .endpoint .«last_control»
+    pub each : (j : ℕ) → j ≤ 1
+        → Carried (Cut j) (slotAt (w₀ .endpoint) j) (slotAt (a .endpoint) j) (storeAt w₀ j) (log j) (quietly j 2 (slotAt (a .endpoint) j))
+
+  alike-acts : (w : World) → Mid w → (a : Acted) → Alike (w .endpoint) (a .endpoint) → Acts w a
+  alike-acts w m a k =
+      record {
+        turn-same = k .same-turn;
+        last-same = k .same-last;
+        each = λ j js. mid-carried w m 2 j js (slotAt (a .endpoint) j) (k .same-phase j js) (k .same-ticket j js);
+      }
+
+  -- Resume
+  resumed-one : (j : ℕ) → j ≤ 1 → (s t : Slot) → t .phase ≡ releasedPhase (s .phase) → t .ticket ≡ s .ticket → s .phase ≡ phaseAt w₀ j → s .ticket ≡ slotAt (w₀ .endpoint) j .ticket
+      → Carried (Cut j) (slotAt (w₀ .endpoint) j) t (storeAt w₀ j) (log j) (quietly j 2 t)
+  resumed-one j js s t e k p q = go (s .phase) e p
+    where
+      plain : {x : Phase} → t .phase ≡ x → x ≡ phaseAt w₀ j → Carried (Cut j) (slotAt (w₀ .endpoint) j) t (storeAt w₀ j) (log j) (quietly j 2 t)
+      plain a b = carried-same 2 (a ∙ b) (k ∙ q) (fits j js)
+      go : (x : Phase) → t .phase ≡ releasedPhase x → x ≡ phaseAt w₀ j → Carried (Cut j) (slotAt (w₀ .endpoint) j) t (storeAt w₀ j) (log j) (quietly j 2 t)
+      go Idle a b = plain a b
+      go (Receive x) a b = plain a b
+      go (Process x) a b = plain a b
+      go (Answered r) a b =
+          let f : PhaseFacts (slotAt (w₀ .endpoint) j .paused) (Answered r) = rw (sym b) at (facts-at j js (s₀ .state)) in
+          carried-released 2 r (sym b) (f .1) a (k ∙ q) (fits j js)
+      go (Transmit r) a b = plain a b
+
+  resume-acts : (w : World) → Mid w → (cpsr : ℕ) → Acts w (record { endpoint = resume (w .endpoint); cpsr = cpsr })
+  unfolding resume
+  resume-acts w m cpsr = record { turn-same = refl; last-same = refl; each = λ j js. rw (slot-both resumedSlot (w .endpoint) j js) (at j js (m .phases j js)) }
+    where
+      at : (j : ℕ) → j ≤ 1 → MidPhase (phaseAt w₀ j) (phaseAt w j)
+          → Carried (Cut j) (slotAt (w₀ .endpoint) j) (resumedSlot (slotAt (w .endpoint) j)) (storeAt w₀ j) (log j) (quietly j 2 (resumedSlot (slotAt (w .endpoint) j)))
+      at j js (kept q) = resumed-one j js (slotAt (w .endpoint) j) (resumedSlot (slotAt (w .endpoint) j)) refl refl q (m .tickets j js)
+      at j js (ended _ early q) = carried-ended (storeAt w₀ j) 2 early (ap releasedPhase q) (m .tickets j js) (fits j js .ticket-is)
+
+  -- Abort
+  abort-acts : (w : World) → Mid w → (i cpsr : ℕ) → i ≤ 1 → Cut i → Acts w (record { endpoint = abort (w .endpoint) i; cpsr = cpsr })
+  unfolding abort
+  abort-acts w m i cpsr is c = record { turn-same = refl; last-same = refl; each = λ j js. at j js (which i j is js) }
+    where
+      v : Valid (w .endpoint)
+      v = m .sound .state
+      e : Endpoint
+      e = withSlot (w .endpoint) i (idled (slotAt (w .endpoint) i))
+      this-one : Carried (Cut i) (slotAt (w₀ .endpoint) i) (idled (slotAt (w .endpoint) i)) (storeAt w₀ i) (log i) (quietly i 2 (idled (slotAt (w .endpoint) i)))
+      this-one = carried-cut (storeAt w₀ i) 2 c refl (m .tickets i is) (fits i is .ticket-is)
+      at : (j : ℕ) → j ≤ 1 → Which i j → Carried (Cut j) (slotAt (w₀ .endpoint) j) (slotAt (withSlot (w .endpoint) i (idled (slotAt (w .endpoint) i))) j) (storeAt w₀ j) (log j) (quietly j 2 (slotAt (withSlot (w .endpoint) i (idled (slotAt (w .endpoint) i))) j))
+      at j js (this q) = rw (q, slot-this i is v (idled (slotAt (w .endpoint) i))) this-one
+      at j js (that q) = rw (q, slot-that i is v (idled (slotAt (w .endpoint) i))) (mid-carried w m 2 (otherSlot i) (other-most i) (slotAt (w .endpoint) (otherSlot i)) refl refl)
+
+  -- Get State
+  clear-alike : (e : Endpoint) → Valid e → (i : ℕ) → i ≤ 1 → Alike e (clearFlags e i)
+  unfolding clearFlags
+  clear-alike e v i is = record { same-phase = λ j js. phase j (which i j is js); same-ticket = λ j js. ticket j (which i j is js); same-turn = refl; same-last = refl }
+    where
+      phase : (j : ℕ) → Which i j → slotAt (withSlot e i (withBusy (slotAt e i) false)) j .phase ≡ slotAt e j .phase
+      phase j (this q) = rw (q, slot-this i is v (withBusy (slotAt e i) false)) refl
+      phase j (that q) = rw (q, slot-that i is v (withBusy (slotAt e i) false)) refl
+      ticket : (j : ℕ) → Which i j → slotAt (withSlot e i (withBusy (slotAt e i) false)) j .ticket ≡ slotAt e j .ticket
+      ticket j (this q) = rw (q, slot-this i is v (withBusy (slotAt e i) false)) refl
+      ticket j (that q) = rw (q, slot-that i is v (withBusy (slotAt e i) false)) refl
+
+  -- a primitive with opcode 2 that passed its tests is an Abort in the document's words
+  no-fault : {A : Type 0} {f : Fault} → f ≡ NoFault → (f ≡ NoFault → _≡_ {A = ℕ} 0 1) → A
+  no-fault e k = absurd (omega (arith, k e))
+
+  unfaulted : (h : MessageHeader) (opcode : ℕ) → controlFault h opcode ≡ NoFault → (h .meb ≡ false) × (h .ciap ≡ false)
+  unfolding controlFault
+  unfaulted h opcode e =
+      let a = if-second (h .meb) (λ k. no-fault k (λ q. cc)) e in
+      let b = if-second (h .ciap) (λ k. no-fault k (λ q. cc)) (a .1) in
+      (a .0, b .0)
+
+  byte-of : (k : ℕ) → byteAt packet (4 + k) ≡ byteAt (payloadOf packet) k
+  byte-of k = rw (getD-drop 4 packet k 0) refl
+
+  is-abort : Controls eid₀ packet → controlFault (messageHeader (payloadOf packet)) (opcodeOf (payloadOf packet)) ≡ NoFault
+      → opcodeOf (payloadOf packet) ≡ 2 → Cut (messageHeader (payloadOf packet) .csi)
+  is-abort c f o =
+      let r = read-facts eid₀ packet (c .read-so) in
+      let u = unfaulted (messageHeader (payloadOf packet)) (opcodeOf (payloadOf packet)) f in
+      let n : length packet ≡ 16 = omega (arith, rw (length-drop 4 packet) at (c .twelve)) in
+      rw (
+        eq-eqb (length packet) 16 n,
+        r .version,
+        r .ours,
+        c .som,
+        c .eom,
+        r .direction,
+        byte-of 0,
+        byte-of 1,
+        byte-of 2,
+        byte-of 4,
+        c .typed,
+        c .request,
+        c .kind,
+        eq-eqb (byteAt (payloadOf packet) 1 % 2) (byteAt (payloadOf packet) 1 % 2) refl,
+        u .0,
+        u .1,
+        o,
+        c .right,
+      )
+      refl
+
+  primitive-acts : (w : World) → Mid w → (opcode i : ℕ) (clear : Bool) → i ≤ 1 → (opcode ≡ 2 → Cut i) → Acts w (primitive (w .endpoint) opcode i clear)
+  unfolding primitive
+  primitive-acts w m opcode i clear is c =
+      if-ind (Acts w) (eqb opcode 0) (λ _. alike-acts w m _ (pause-alike (w .endpoint)))
+      (λ _.
+      if-ind (Acts w) (eqb opcode 1) (λ _. resume-acts w m 0)
+      (λ _.
+      if-ind (Acts w) (eqb opcode 2) (λ two. abort-acts w m i _ is (c (eqb-true opcode 2 two)))
+      (λ _.
+      alike-acts w m _ (if-ind (Alike (w .endpoint)) clear (λ _. clear-alike (w .endpoint) (m .sound .state) i is) (λ _. itself (w .endpoint))))))
+
+  control : (w : World) → Controls eid₀ packet → Mid w
+      → Ends (outcome 2 (withEndpoint w (controlled (w .endpoint) (fields packet) (messageHeader (payloadOf packet)) (payloadOf packet))))
+  unfolding controlled
+  control w c m = go (controlFault (messageHeader (payloadOf packet)) (opcodeOf (payloadOf packet))) refl
+    where
+      mh : MessageHeader
+      mh = messageHeader (payloadOf packet)
+      -- an error reply
+      fault : Ends (outcome 2 w)
+      fault =
+          record {
+            turn-is = m .turn-is;
+            last-is = m .last-is;
+            carried = λ j js. rw (m .stores j) (mid-carried w m 2 j js (slotAt (w .endpoint) j) refl refl);
+          }
+      go : (f : Fault) → controlFault (messageHeader (payloadOf packet)) (opcodeOf (payloadOf packet)) ≡ f
+          → Ends (outcome 2 (withEndpoint w (controlledBy (w .endpoint) (fields packet) (messageHeader (payloadOf packet) .csi) (payloadOf packet) f)))
+      go NoFault e =
+          let a = primitive-acts w m (opcodeOf (payloadOf packet)) (messageHeader (payloadOf packet) .csi) (clearsFlags (payloadOf packet)) (csi-most (payloadOf packet)) (is-abort c e) in
+          record {
+            turn-is = a .turn-same ∙ m .turn-is;
+            last-is = a .last-same ∙ m .last-is;
+            carried = λ j js. rw (m .stores j) (a .each j js);
+          }
+      go (Parameter byte bit) e = record { turn-is = fault .turn-is; last-is = fault .last-is; carried = fault .carried }
+      go (Failure status) e = record { turn-is = fault .turn-is; last-is = fault .last-is; carried = fault .carried }
+
+  -- ---- the whole
+
+  the-walk : Walk eid₀ packet Mid Ends
+  the-walk =
+      record {
+        sound = λ w m. m .sound;
+        refusing = refusing;
+        busying = busying;
+        dropping = dropping;
+        failing = failing;
+        gaining = gain;
+        entering = enter;
+        controlling = control;
+      }
+
+  start-mid : Mid w₀
+  start-mid = record { sound = s₀; turn-is = refl; last-is = refl; stores = λ j. refl; tickets = λ j js. refl; phases = λ j js. kept refl }
+
+  -- an assembly under this source and tag ends
+  gathers-early : (source tag : ℕ) (p : Phase) → gathers source tag p ≡ true → isEarly p ≡ true
+  gathers-early source tag Idle h = refl
+  gathers-early source tag (Receive a) h = refl
+  gathers-early source tag (Process r) h = h
+  gathers-early source tag (Answered r) h = h
+  gathers-early source tag (Transmit r) h = h
+
+  ended-mid : hasSom packet ≡ true → Mid (withEndpoint w₀ (endAssembly (w₀ .endpoint) (fields packet .source) (fields packet .tag)))
+  unfolding endAssembly
+  ended-mid som =
+      record {
+        sound = unfold endAssembly in (sound-endpoint s₀ (end-valid (fields packet .source) (fields packet .tag) (s₀ .state)));
+        turn-is = refl;
+        last-is = refl;
+        stores = λ j. refl;
+        tickets = λ j js. rw (slot-both over (w₀ .endpoint) j js) (ticket (slotAt (w₀ .endpoint) j));
+        phases = λ j js. rw (slot-both over (w₀ .endpoint) j js) (phase (slotAt (w₀ .endpoint) j));
+      }
+    where
+      over : Slot → Slot
+      over = endedSlot (fields packet .source) (fields packet .tag)
+      ticket : (s : Slot) → endedSlot (fields packet .source) (fields packet .tag) s .ticket ≡ s .ticket
+      ticket s = if-ind (λ (x : Slot). x .ticket ≡ s .ticket) (gathers (fields packet .source) (fields packet .tag) (s .phase)) (λ _. refl) (λ _. refl)
+      phase : (s : Slot) → MidPhase (s .phase) (endedSlot (fields packet .source) (fields packet .tag) s .phase)
+      phase s =
+          if-ind (λ (x : Slot). MidPhase (s .phase) (x .phase)) (gathers (fields packet .source) (fields packet .tag) (s .phase))
+          (λ g. ended som (gathers-early (fields packet .source) (fields packet .tag) (s .phase) g) refl) (λ _. kept refl)
+
+  pub received-carries : Carries (receive packet) w₀ log (byOutcome (received w₀ packet))
+  received-carries = walked w₀ packet Mid Ends the-walk s₀ start-mid ended-mid
