@@ -37,7 +37,7 @@ use Rattle.machine.proofs.Places.{Which, this, that, which, other-diffe
 use Rattle.machine.proofs.Fits.{Going, Fit, Steady, same, newly, released, worked, fell, Carried}
 use Rattle.machine.proofs.Received.{Carries}
 use Rattle.machine.proofs.Polling.{PollCase, still, replies, sends, poll-case, PollKept, unmoved, moved-same, onward, onward-logs, onward-moves, sentLog, joined}
-use Rattle.machine.proofs.Histories.{Good, isPlain, plain-carries, good-next, good-run, good-start}
+use Rattle.machine.proofs.Histories.{Good, isPlain, plain-carries, good-next, good-every}
 
 -- ---- packets left, and what may go before
 
@@ -521,4 +521,4 @@ pub demand-3 : Demand3
 demand-3 eid store0 store1 a b xs ys i is t =
     let h = run xs (start eid store0 store1) in
     let k = sending-phase (phaseAt (h .world) i) t in
-    from-here i is h (good-run xs (start eid store0 store1) (good-start eid store0 store1 a b)) (k .0) (k .1) ys
+    from-here i is h (good-every eid store0 store1 a b xs) (k .0) (k .1) ys

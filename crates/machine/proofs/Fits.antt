@@ -19,8 +19,9 @@ use Rattle.nvme_mi.specs.declared.Fault.the-variants.{NoFault, Parameter, Failu
 use Rattle.machine.specs.State.{World, settled}
 use Rattle.machine.specs.Wire.{unit}
 use Rattle.machine.specs.Calls.{Call, receive, Event, number}
-use Rattle.machine.specs.Valid.{phased, isBegun}
+use Rattle.machine.specs.Valid.{isBegun}
 use Rattle.machine.specs.History.{Log, isTransmit, kindOf, responseFor, leastLength, fixedAtEntry, isFor, gaining, entering, commanded, sending, transmitted}
+use Rattle.machine.specs.Demands.{isProcess}
 use Rattle.machine.specs.declared.Request.{Request}
 use Rattle.machine.specs.declared.Response.{Response}
 use Rattle.machine.specs.declared.Phase.{Phase}
@@ -61,9 +62,6 @@ pub record Fit (s : Slot) (store : List ℕ) (l : Log) : Type 0 where
   pub ticket-is : s .ticket .0 ≡ l .entries % 2 ^ 32
 
 -- ---- what a call does to a slot's entries and request
-
-abbrev pub isProcess : Phase → Bool
-isProcess = phased false (λ a. false) (λ r. true) (λ r. false) (λ r. false)
 
 pub data Entry (p q : Phase) (l m : Log) : Type 0 where
   entered : m .entries ≡ l .entries + 1 → Entry p q l m

@@ -88,3 +88,7 @@ good-start eid store0 store1 a b =
       sound = unfold begin in (record { state = begin-valid eid store0 store1; size0 = a; size1 = b });
       fits = λ j js. unfold begin in (rw (set-up-slot eid j js) (record { phase-fits = tt; ticket-is = refl }));
     }
+
+-- every list of calls from any setup
+pub good-every : (eid : ℕ) (store0 store1 : List ℕ) → length store0 ≡ store-size → length store1 ≡ store-size → (xs : List Call) → Good (run xs (start eid store0 store1))
+good-every eid store0 store1 a b xs = good-run xs (start eid store0 store1) (good-start eid store0 store1 a b)

@@ -9,3 +9,4 @@ pub mod Finished
 pub mod Polling
 pub mod Histories
 pub mod Delivery
+pub mod Tickets

@@ -19,6 +19,7 @@ use Rattle.machine.specs.Poll.{Polled, otherSlot, chosen, ready, isLast,
 use Rattle.machine.specs.Valid.{Valid, Sound}
 use Rattle.machine.specs.Calls.{Call, poll, Event, number, handed-out, Stepped, stepped, byPoll, step}
 use Rattle.machine.specs.History.{Log, phaseAt, pausedAt, isTransmit, moved, isPacketOf, sending, transmitted, logAfter, counts}
+use Rattle.machine.specs.Demands.{isProcess}
 use Rattle.machine.specs.declared.Response.{Response}
 use Rattle.machine.specs.declared.Phase.{Phase}
 use Rattle.machine.specs.declared.Phase.the-variants.{Idle, Receive, Process, Answered, Transmit}
@@ -30,7 +31,7 @@ use Rattle.machine.proofs.Slots.{false-true, and-both, other-most}
 use Rattle.machine.proofs.Receiving.{right-stores}
 use Rattle.machine.proofs.Keeps.{Chosen, chosen-at}
 use Rattle.machine.proofs.Places.{Which, this, that, which, slot-this, slot-that}
-use Rattle.machine.proofs.Fits.{Going, FitP, Fit, Entry, stayed, isProcess, quiet-same}
+use Rattle.machine.proofs.Fits.{Going, FitP, Fit, Entry, stayed, quiet-same}
 
 -- ---- the three things
 

@@ -42,7 +42,7 @@ use Rattle.machine.proofs.Slots.{isEarly, false-true, facts-at, from-sa
 use Rattle.machine.proofs.Receiving.{Origin, opens, goes-on, Joining, filled, grown, whole, Controls, Walk, read-facts, csi-most, walked}
 use Rattle.machine.proofs.Keeps.{received-sound, sound-endpoint, sound-store, store-at, kept-quiet, pause-valid, end-valid}
 use Rattle.machine.proofs.Places.{Which, this, that, which, other-differs, slot-this, slot-that, slot-both, store-this, store-that, take-joined}
-use Rattle.machine.proofs.Fits.{Asked, Full, Fit, FitP, Entry, entered, stayed, isProcess, Steady, same, newly, released, worked, fell, Carried, quiet-same, quiet-other, refusal-log, carried-same, carried-ended, carried-cut, carried-released, carried-settled, settled-begun, settled-process, next-ticket, response-is, atEntry, fixed-is}
+use Rattle.machine.proofs.Fits.{Asked, Full, Fit, FitP, Entry, entered, stayed, Steady, same, newly, released, worked, fell, Carried, quiet-same, quiet-other, refusal-log, carried-same, carried-ended, carried-cut, carried-released, carried-settled, settled-begun, settled-process, next-ticket, response-is, atEntry, fixed-is}
 
 -- what a call does to both slots, with the logs before it, and to what polling goes by
 pub record Carries (c : Call) (w : World) (log : ℕ → Log) (s : Stepped) : Type 0 where

@@ -1,5 +1,5 @@
--- Demands 2 and 3 as statements about lists of calls; their proofs are `delivered`, `ticket-count`, `ticket-rule`, `answered-own` and
--- `answer-belongs` of proofs/.
+-- Demands 2 and 3 as statements about lists of calls. Their proofs: `demand-3` (proofs/Delivery), `ticket-count`, `ticket-rule`,
+-- `answers-own`, `answer-belongs` (proofs/Tickets).
 -- Assumes nothing.
 use Prim.Native.Nat.{ℕ, zero, suc, _+_, _-_, _*_, _/_, _%_, _^_, _≤_, _<_}
 use mathlib.Core.Path.{_≡_}
@@ -7,9 +7,16 @@ use mathlib.Core.Bool.{Bool, true, false, not, _&&_, _||_}
 use mathlib.Core.List.{List, [], _∷_, _++_}
 use lib.ListN.{length}
 use Rattle.lent.specs.Choice.{if_then_else_}
+use Rattle.mctp.specs.Cut.{packet}
+use Rattle.mctp.specs.declared.Route.{Route}
+use Rattle.machine.specs.State.{World, slotAt}
 use Rattle.machine.specs.Wire.{store-size}
-use Rattle.machine.specs.Calls.{Call, step}
-use Rattle.machine.specs.History.{History, phaseAt, isTransmit, next, run, start, cuts, packetsLeft, lastPacketOut}
+use Rattle.machine.specs.Poll.{controlPacket}
+use Rattle.machine.specs.Valid.{phased}
+use Rattle.machine.specs.Calls.{Call, take!, read, complete, poll, Event, number, given, part-read, handed-out, step}
+use Rattle.machine.specs.History.{History, phaseAt, pausedAt, isTransmit, responseFor, isPacketOf, next, run, start, cuts, packetsLeft, lastPacketOut}
+use Rattle.machine.specs.declared.Ticket.{Ticket}
+use Rattle.machine.specs.declared.Phase.{Phase}
 
 -- ---- what happens first to the response that slot i is sending
 
@@ -46,3 +53,80 @@ Demand3 =
     × (packetsLeft i (run xs (start eid store0 store1)) ≤ 66)
     × Within (run xs (start eid store0 store1) .counted + 2 * (66 + packetsLeft i (run xs (start eid store0 store1)))) i
       (fate i ys (run xs (start eid store0 store1)))
+
+-- ---- DEMAND 2, the ticket rule
+
+-- any list of calls from any setup, on two stores of 4,224 bytes
+abbrev pub Every : (History → Type 0) → Type 0
+Every P =
+    (eid : ℕ) (store0 store1 : List ℕ) → length store0 ≡ store-size → length store1 ≡ store-size → (xs : List Call) → P (run xs (start eid store0 store1))
+
+-- the slot's ticket is the number of its entries into Process, modulo 2^32; no call sets it back, a reset neither
+abbrev pub TicketCount : Type 0
+TicketCount = Every (λ h. (i : ℕ) → i ≤ 1 → slotAt (h .world .endpoint) i .ticket .0 ≡ h .log i .entries % 2 ^ 32)
+
+abbrev pub isProcess : Phase → Bool
+isProcess = phased false (λ a. false) (λ r. true) (λ r. false) (λ r. false)
+
+-- a ticket that a take gave, with at least one and fewer than 2^32 entries since: completing with it is refused, 32 where a command is in
+-- Process there, and 31 else
+abbrev pub TicketRule : Type 0
+TicketRule =
+    Every (λ h. (i : ℕ) (t : Ticket) → step (take! i) (h .world) .event ≡ given t → (ys : List Call) (body : List ℕ)
+    → h .log i .entries < run ys (next (take! i) h) .log i .entries
+    → run ys (next (take! i) h) .log i .entries < h .log i .entries + 2 ^ 32
+    → step (complete i t body) (run ys (next (take! i) h) .world) .event ≡ number (if isProcess (phaseAt (run ys (next (take! i) h) .world) i) then 32 else 31))
+
+-- what a completion that is accepted answers is the command that the take of its ticket handed over
+pub record Own (h later : History) (i : ℕ) (t : Ticket) (body : List ℕ) : Type 0 where
+  -- no command of the slot came in between
+  pub no-entry : later .log i .entries ≡ h .log i .entries
+  -- the request is the one that was read after the take
+  pub same-request : later .log i .request ≡ next (take! i) h .log i .request
+  pub read-request : step (read i) (next (take! i) h .world) .event ≡ part-read (next (take! i) h .log i .request)
+  -- and the response that is fixed now is that command's
+  pub fixes : next (complete i t body) later .log i .response ≡ responseFor i (next (take! i) h .log i .request) body
+
+abbrev pub AnswersOwn : Type 0
+AnswersOwn =
+    Every (λ h. (i : ℕ) (t : Ticket) → step (take! i) (h .world) .event ≡ given t → (ys : List Call) (body : List ℕ)
+    → run ys (next (take! i) h) .log i .entries < h .log i .entries + 2 ^ 32
+    → step (complete i t body) (run ys (next (take! i) h) .world) .event ≡ number 0
+    → Own h (run ys (next (take! i) h)) i t body)
+
+-- to the sender of the command of the slot's last entry, under its tag, from this endpoint, TO 0
+abbrev pub routeOf : History → ℕ → Route
+routeOf h i = record { destination = h .log i .requester; source = h .world .endpoint .eid; to = false; tag = h .log i .tag }
+
+-- a packet that a poll hands out of slot i is the next packet of the response fixed for the slot's last entry; and one that is of no slot is
+-- the control reply that waited
+pub record Belongs (h : History) (buffer : List ℕ) (bytes : List ℕ) : Type 0 where
+  pub of-slot : (i : ℕ) → i ≤ 1 → isPacketOf (phaseAt (h .world) i) (phaseAt (step (poll buffer) (h .world) .world) i) (handed-out bytes) ≡ true
+      → bytes ≡ packet 64 (routeOf h i) (h .log i .response) (h .log i .packets)
+  pub of-none : ((i : ℕ) → i ≤ 1 → isPacketOf (phaseAt (h .world) i) (phaseAt (step (poll buffer) (h .world) .world) i) (handed-out bytes) ≡ false)
+      → (h .world .endpoint .«reply_waits» ≡ true) × (bytes ≡ controlPacket (h .world .endpoint))
+
+-- AN ANSWER BELONGS TO ITS QUESTION
+abbrev pub AnswerBelongs : Type 0
+AnswerBelongs = Every (λ h. (buffer bytes : List ℕ) → step (poll buffer) (h .world) .event ≡ handed-out bytes → Belongs h buffer bytes)
+
+-- ---- laws that no bound can see
+
+-- a command packet is handed out only if neither pause flag is set just before
+abbrev pub PausesHold : Type 0
+PausesHold =
+    Every (λ h. (i : ℕ) → i ≤ 1 → (buffer : List ℕ)
+    → isPacketOf (phaseAt (h .world) i) (phaseAt (step (poll buffer) (h .world) .world) i) (step (poll buffer) (h .world) .event) ≡ true
+    → (pausedAt (h .world) 0 ≡ false) × (pausedAt (h .world) 1 ≡ false))
+
+abbrev pub isAnswered : Phase → Bool
+isAnswered = phased false (λ a. false) (λ r. false) (λ r. true) (λ r. false)
+
+abbrev pub isIdleNow : Phase → Bool
+isIdleNow = phased true (λ a. false) (λ r. false) (λ r. false) (λ r. false)
+
+-- a response waits in Process only while its slot's flag is set; an Idle slot has no flag
+abbrev pub FlagsFit : Type 0
+FlagsFit =
+    Every (λ h. (i : ℕ) → i ≤ 1
+    → (isAnswered (phaseAt (h .world) i) ≡ true → pausedAt (h .world) i ≡ true) × (isIdleNow (phaseAt (h .world) i) ≡ true → pausedAt (h .world) i ≡ false))
