@@ -16,11 +16,11 @@ use Rattle.mctp.proofs.Laws.{packets-bounds, packets-most, packets-cover}
 use Rattle.machine.specs.State.{World, slotAt, storeAt, withSlot, withEndpoint, withPhase, replySent, packetSent, idled}
 use Rattle.machine.specs.Wire.{unit, store-size}
 use Rattle.machine.specs.Finish.{taken}
-use Rattle.machine.specs.Poll.{otherSlot, sendingOr, begunOr, chosen, isLast, advanced, afterPacket, controlPacket, commandPacket}
+use Rattle.machine.specs.Poll.{otherSlot, sendingOr, hasBegun, begunOr, chosen, isLast, advanced, afterPacket, controlPacket, commandPacket}
 use Rattle.machine.specs.Valid.{phased, isBegun, Fits, PhaseFacts, Valid, Sound}
 use Rattle.machine.specs.Calls.{Call, receive, take!, read, complete, poll, timeout, reset, Event, number, given, handed-out, Stepped, stepped, takeEvent, step}
 use Rattle.machine.specs.History.{Log, History, phaseAt, isTransmit, moved, isPacketOf, transmitted, logAfter, counts, one?, next, run, start, cuts, packetsLeft, lastPacketOut}
-use Rattle.machine.specs.Demands.{Fate, cut, delivered, open!, fate, Within, Demand3}
+use Rattle.machine.specs.Demands.{Fate, cut, delivered, open!, fate, Within, pollsFor, Demand3, AtMost264}
 use Rattle.machine.specs.declared.Request.{Request}
 use Rattle.machine.specs.declared.Response.{Response}
 use Rattle.machine.specs.declared.Phase.{Phase}
@@ -63,11 +63,11 @@ ahead i e =
     before (isBegun (slotAt e i .phase)) (isBegun (slotAt e (otherSlot i) .phase)) (leftIn (slotAt e (otherSlot i) .phase)) (eqb (e .turn) (otherSlot i))
 
 -- one poll more, where a control reply may go first
-abbrev replyFirst : Bool → ℕ
-replyFirst last = if last then 0 else 1
+abbrev oneMore : Bool → ℕ
+oneMore last = if last then 0 else 1
 
 abbrev measure : ℕ → Endpoint → ℕ
-measure i e = 2 * (leftIn (slotAt e i .phase) + ahead i e) + replyFirst (e .«last_control»)
+measure i e = 2 * (leftIn (slotAt e i .phase) + ahead i e) + oneMore (e .«last_control»)
 
 before-most : (a b : Bool) (n : ℕ) (t : Bool) → n ≤ 66 → before a b n t ≤ 66
 before-most true b n t h = omega arith
@@ -139,7 +139,7 @@ plain-step i is c h g p n r t =
     let mine : slotAt e′ i .phase ≡ slotAt e i .phase = stays r (k .carried i is .steady) t (λ b. false-true (sym n ∙ b)) in
     let front : ahead i e′ ≤ ahead i e = ahead-down e e′ i is (g .sound .state) (k .turn-is) mine (k .carried (otherSlot i) (other-most i) .steady) in
     let left : leftIn (slotAt e′ i .phase) ≡ leftIn (slotAt e i .phase) = ap leftIn mine in
-    let last : replyFirst (e′ .«last_control») ≡ replyFirst (e .«last_control») = ap replyFirst (k .last-is) in
+    let last : oneMore (e′ .«last_control») ≡ oneMore (e .«last_control») = ap oneMore (k .last-is) in
     (mine ∙ t, omega (arith, front, left, last))
 
 -- ---- which packet goes
@@ -149,7 +149,7 @@ begun-or-some k Idle other n e = n e
 begun-or-some k (Receive a) other n e = n e
 begun-or-some k (Process r) other n e = n e
 begun-or-some k (Answered r) other n e = n e
-begun-or-some k (Transmit r) other n e = if-ind (λ (x : Ready). x ≡ Nothing → ⊥) (ltb 0 (r .sent)) (λ _ q. omega (arith, from-nothing q)) (λ _ q. n q) e
+begun-or-some k (Transmit r) other n e = if-ind (λ (x : Ready). x ≡ Nothing → ⊥) (hasBegun r) (λ _ q. omega (arith, from-nothing q)) (λ _ q. n q) e
   where
     from-nothing : From k r ≡ Nothing → _≡_ {A = ℕ} 0 1
     from-nothing q = cc
@@ -272,7 +272,7 @@ module _ (i : ℕ) (is : i ≤ 1) (buffer : List ℕ) (h : History) (g : Good h)
   control-sent k = goes (and-no _ (moved-same (phaseAt (h .world) i)) _) r t (go (counts (poll buffer) (h .world)) refl (e₀ .«last_control») refl)
     where
       go : (b : Bool) → counts (poll buffer) (h .world) ≡ b → (l : Bool) → e₀ .«last_control» ≡ l
-          → 2 * (leftIn (phaseAt (h .world) i) + ahead i e₀) + 0 + one? b ≤ 2 * (leftIn (phaseAt (h .world) i) + ahead i e₀) + replyFirst l
+          → 2 * (leftIn (phaseAt (h .world) i) + ahead i e₀) + 0 + one? b ≤ 2 * (leftIn (phaseAt (h .world) i) + ahead i e₀) + oneMore l
       go true e true f = false-true (sym (k e some-chosen) ∙ f)
       go true e false f = omega arith
       go false e l f = omega arith
@@ -503,7 +503,7 @@ sending-phase (Answered r) h = false-true h
 sending-phase (Transmit r) h = (r, refl)
 
 from-here : (i : ℕ) → i ≤ 1 → (h : History) → Good h → (r : Response) → phaseAt (h .world) i ≡ Transmit r → (ys : List Call)
-    → (1 ≤ packetsLeft i h) × (packetsLeft i h ≤ 66) × Within (h .counted + 2 * (66 + packetsLeft i h)) i (fate i ys h)
+    → (1 ≤ packetsLeft i h) × (packetsLeft i h ≤ 66) × Within (h .counted + pollsFor (packetsLeft i h)) i (fate i ys h)
 from-here i is h g r t ys =
     let v = g .sound .state in
     let f : PhaseFacts (slotAt (h .world .endpoint) i .paused) (Transmit r) = rw t at (facts-at i is v) in
@@ -513,12 +513,25 @@ from-here i is h g r t ys =
     let most : ahead i (h .world .endpoint) ≤ 66 =
           before-most (isBegun (phaseAt (h .world) i)) (isBegun (phaseAt (h .world) o)) (leftIn (phaseAt (h .world) o)) (eqb (h .world .endpoint .turn) o)
           (left-most (slotAt (h .world .endpoint) o .paused) (phaseAt (h .world) o) (facts-at o (other-most i) v)) in
-    let first : replyFirst (h .world .endpoint .«last_control») ≤ 1 =
+    let first : oneMore (h .world .endpoint .«last_control») ≤ 1 =
           if-ind (λ (x : ℕ). x ≤ 1) (h .world .endpoint .«last_control») (λ _. omega arith) (λ _. omega arith) in
-    (omega (arith, k .0, n), omega (arith, k .1, n), within i (h .counted + 2 * (66 + packetsLeft i h)) is ys h g r t (omega (arith, most, first, n, ap leftIn t)))
+    (omega (arith, k .0, n), omega (arith, k .1, n), within i (h .counted + pollsFor (packetsLeft i h)) is ys h g r t (omega (arith, most, first, n, ap leftIn t)))
 
 pub demand-3 : Demand3
 demand-3 eid store0 store1 a b xs ys i is t =
     let h = run xs (start eid store0 store1) in
     let k = sending-phase (phaseAt (h .world) i) t in
     from-here i is h (good-every eid store0 store1 a b xs) (k .0) (k .1) ys
+
+-- ---- what people quote
+
+within-more : (i a b : ℕ) (f : Fate) → a ≤ b → Within a i f → Within b i f
+within-more i a b cut h w = tt
+within-more i a b (delivered k) h w = (omega (arith, w .0), w .1)
+within-more i a b (open! k) h w = omega arith
+
+pub at-most-264 : AtMost264
+at-most-264 eid store0 store1 a b xs ys i is t =
+    let h = run xs (start eid store0 store1) in
+    let k = demand-3 eid store0 store1 a b xs ys i is t in
+    within-more i (h .counted + pollsFor (packetsLeft i h)) (h .counted + 264) (fate i ys h) (omega (arith, k .1)) (k .2)

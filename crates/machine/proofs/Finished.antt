@@ -15,9 +15,9 @@ use Rattle.lent.proofs.Stores.{take-put}
 use Rattle.nvme_mi.specs.Response.{response}
 use Rattle.nvme_mi.proofs.Laws.{length-response}
 use Rattle.machine.specs.State.{World, Outcome, outcome, slotAt, storeAt, withSlot, withStore, withEndpoint, withPhase, idled, settled, fresh}
-use Rattle.machine.specs.Wire.{wrongStores}
+use Rattle.machine.specs.Wire.{response-place, wrongStores}
 use Rattle.machine.specs.Process.{responseTo, responded}
-use Rattle.machine.specs.Finish.{isSlot, takenRequest, takenRow, takenFrom, taken, isBody, completedRow, completedIn, completed, isReceive, timedOut, wasReset}
+use Rattle.machine.specs.Finish.{isSlot, takenRequest, takenRow, takenFrom, taken, isBody, isPresent, completedRow, completedIn, completed, isReceive, timedOut, wasReset}
 use Rattle.machine.specs.Poll.{otherSlot}
 use Rattle.machine.specs.Valid.{Valid, Sound}
 use Rattle.machine.specs.Calls.{Call, take!, read, complete, timeout, reset, Event, number, given, Stepped, stepped, byOutcome, byDone, byTake, step}
@@ -106,9 +106,9 @@ module _ (w₀ : World) (log : ℕ → Log) (s₀ : Sound w₀)
       n = length-response (r .kind) i body
       text-is : text ≡ completing i body (log i) .response
       text-is = rw (k .kind-is) (response-is i (log i .request) body is)
-      lies : take (length body + 8) (put (storeAt w₀ i) 0 text) ≡ text
+      lies : take (length body + 8) (put (storeAt w₀ i) response-place text) ≡ text
       lies = rw (sym n) (take-put (storeAt w₀ i) text)
-      this-one : Carried (false ≡ true) (slotAt (w₀ .endpoint) i) s (put (storeAt w₀ i) 0 text) (log i)
+      this-one : Carried (false ≡ true) (slotAt (w₀ .endpoint) i) s (put (storeAt w₀ i) response-place text) (log i)
           (transmitted (phaseAt w₀ i) (s .phase) (number 0) (completing i body (log i)))
       this-one =
           let b = slotAt (w₀ .endpoint) i .paused in
@@ -116,11 +116,11 @@ module _ (w₀ : World) (log : ℕ → Log) (s₀ : Sound w₀)
           (record { held = lies ∙ text-is; size = rw (sym text-is) n; to = k .from; under = k .under }) (fits i is .ticket-is)
           (stayed refl (λ h. false-true (sym (settled-process b (responseTo r body)) ∙ h))) (worked r p (settled-begun b (responseTo r body) refl))
       at : (j : ℕ) → j ≤ 1 → Which i j
-          → Carried (false ≡ true) (slotAt (w₀ .endpoint) j) (slotAt (withSlot (w₀ .endpoint) i s) j) (storeAt (withStore w₀ i (put (storeAt w₀ i) 0 text)) j) (log j)
+          → Carried (false ≡ true) (slotAt (w₀ .endpoint) j) (slotAt (withSlot (w₀ .endpoint) i s) j) (storeAt (withStore w₀ i (put (storeAt w₀ i) response-place text)) j) (log j)
           (transmitted (phaseAt w₀ j) (slotAt (withSlot (w₀ .endpoint) i s) j .phase) (number 0) (commanded j (complete i t body) w₀ (number 0) (log j)))
-      at j js (this q) = rw (q, slot-this i is v s, store-this w₀ i is (put (storeAt w₀ i) 0 text), eq-eqb i i refl) this-one
+      at j js (this q) = rw (q, slot-this i is v s, store-this w₀ i is (put (storeAt w₀ i) response-place text), eq-eqb i i refl) this-one
       at j js (that q) =
-          rw (q, slot-that i is v s, store-that w₀ i is (put (storeAt w₀ i) 0 text), ne-eqb i (otherSlot i) (λ e. other-differs i is (sym e)))
+          rw (q, slot-that i is v s, store-that w₀ i is (put (storeAt w₀ i) response-place text), ne-eqb i (otherSlot i) (λ e. other-differs i is (sym e)))
           (carried-same 0 refl refl (fits (otherSlot i) (other-most i)))
 
   pub complete-carries : (i : ℕ) (t : Ticket) (body : List ℕ) → Carries (complete i t body) w₀ log (byOutcome (completed w₀ i t body))
@@ -138,7 +138,7 @@ module _ (w₀ : World) (log : ℕ → Log) (s₀ : Sound w₀)
       into : i ≤ 1 → (p : Phase) → phaseAt w₀ i ≡ p → After (completedIn w₀ i t body p)
       into is Idle p = none 31 refl
       into is (Receive a) p = none 31 refl
-      into is (Process r) p = if-ind After (not (eqb (t .0) (slotAt (w₀ .endpoint) i .ticket .0))) (λ _. none 32 refl) (λ _. row is r (r .taking) p)
+      into is (Process r) p = if-ind After (not (isPresent t (slotAt (w₀ .endpoint) i))) (λ _. none 32 refl) (λ _. row is r (r .taking) p)
       into is (Answered r) p = none 31 refl
       into is (Transmit r) p = none 31 refl
 

@@ -24,12 +24,12 @@ use Rattle.nvme_mi.specs.declared.MessageHeader.{MessageHeader}
 use Rattle.nvme_mi.specs.declared.Fault.{Fault}
 use Rattle.nvme_mi.specs.declared.Fault.the-variants.{NoFault, Parameter, Failure}
 use Rattle.machine.specs.State.{World, Outcome, slotAt, storeAt, withSlot, withSlots, withFlags, withReply, withStore, withEndpoint, onSlot, onBoth, withPhase, withPaused, withBusy, idled, isIdle, fresh, ticket, settled, replySent, packetSent}
-use Rattle.machine.specs.Wire.{unit, store-size, smallest, packet-room, wrongStores, opcodeOf, tagOf, clearsFlags}
+use Rattle.machine.specs.Wire.{unit, store-size, response-place, smallest, packet-room, wrongStores, opcodeOf, tagOf, clearsFlags}
 use Rattle.machine.specs.Control.{pausedSlot, pause, resumedSlot, released, resume, abort, clearFlags, primitive, replied, repliedActed, controlledBy, controlled}
 use Rattle.machine.specs.Process.{request, processing, responseTo, responded, respondedAtOnce, pausedIf, entered}
 use Rattle.machine.specs.Receive.{refused, refusedBusy, raised, flagOf, maskIn, dropped, gathers, endedSlot, endAssembly, received}
-use Rattle.machine.specs.Finish.{isSlot, takenRow, takenFrom, taken, isBody, completedRow, completedIn, completed, isReceive, timedOut, started, wasReset, initial, wasSetUp}
-use Rattle.machine.specs.Poll.{Polled, otherSlot, sendingOr, begunOr, chosen, ready, isLast, advanced, afterPacket, sentControl, sentCommand, polledBy, polled}
+use Rattle.machine.specs.Finish.{isSlot, takenRow, takenFrom, taken, isBody, isPresent, completedRow, completedIn, completed, isReceive, timedOut, started, wasReset, initial, wasSetUp}
+use Rattle.machine.specs.Poll.{Polled, otherSlot, sendingOr, hasBegun, begunOr, chosen, anyPaused, ready, replyFirst, isLast, advanced, afterPacket, sentControl, sentCommand, polledBy, polled}
 use Rattle.machine.specs.Valid.{phased, apart, isBegun, Fits, PhaseFacts, ValidSlot, ValidSlots, two, ValidFlags, Valid, Sound}
 use Rattle.machine.specs.Calls.{Call, receive, take!, read, complete, poll, timeout, reset, step, begin}
 use Rattle.machine.specs.declared.Ticket.{Ticket}
@@ -312,9 +312,9 @@ pub responded-sound : {w : World} (i : ℕ) (r : Request) (body : List ℕ) → 
 unfolding responded
 responded-sound {w} i r body is lo hi s =
     let n = length-response (r .kind) i body in
-    let room : 0 + length (response (r .kind) i body) ≤ store-size = rw n (omega arith) in
+    let room : response-place + length (response (r .kind) i body) ≤ store-size = rw n (omega arith) in
     let k = settled-facts (slotAt (w .endpoint) i .paused) (responseTo r body) refl (record { least = omega arith; most = omega arith }) in
-    sound-endpoint (sound-store i _ s (put-store i 0 (response (r .kind) i body) room s))
+    sound-endpoint (sound-store i _ s (put-store i response-place (response (r .kind) i body) room s))
     (kept-quiet i is (s .state) (withPhase (slotAt (w .endpoint) i) (settled (slotAt (w .endpoint) i .paused) (responseTo r body))) (k .0) (k .1))
 
 at-once-sound : {w : World} (i : ℕ) (r : Request) (f : Fault) → i ≤ 1 → Sound w → Sound (respondedAtOnce w i r f)
@@ -370,28 +370,29 @@ awaited-valid {e} i a is free lo hi v =
 abbrev After : Outcome → Type 0
 After o = Sound (o .world)
 
-sound-walk : (eid : ℕ) (packet : List ℕ) → Walk eid packet Sound After
+sound-walk : (w₀ : World) (packet : List ℕ) → Sound w₀ → Walk w₀ packet Sound After
 unfolding refused refusedBusy
-sound-walk eid packet =
+sound-walk w₀ packet s₀ =
     record {
       sound = λ w s. s;
+      unread = λ n _ _. refuse w₀ n s₀;
       refusing = λ w n _ s. refuse w n s;
       busying = λ w i is s. sound-endpoint s (busied-valid i is true (s .state));
       dropping = λ w i n _ is _ s. refuse (dropped w i) n (sound-endpoint s (idled-valid i is (s .state)));
       failing = λ w i at j s. refuse _ 19 (let f = fill w i at j s in sound-endpoint f (idled-valid i (j .slot-is) (f .state)));
-      gaining = λ w i at j lo s. sound-endpoint (fill w i at j s) (awaited-valid i (grown eid packet at) (j .slot-is) (j .alone) lo (j .fits) (s .state));
-      entering = λ w i at j lo s. entered-sound i (grown eid packet at) _ (j .slot-is) lo (j .fits) (fill w i at j s);
+      gaining = λ w i at j lo s. sound-endpoint (fill w i at j s) (awaited-valid i (grown w₀ packet at) (j .slot-is) (j .alone) lo (j .fits) (s .state));
+      entering = λ w i at j lo s. entered-sound i (grown w₀ packet at) _ (j .slot-is) lo (j .fits) (fill w i at j s);
       controlling = λ w c s. sound-endpoint s (controlled-valid (fields packet) (messageHeader (payloadOf packet)) (payloadOf packet) (csi-most (payloadOf packet)) (s .state));
     }
   where
     refuse : (w : World) (n : ℕ) → Sound w → After (refused w n)
     refuse w n s = unfold refused in (sound-endpoint s (raised-valid (flagOf n) (flag-valid n) (s .state)))
-    fill : (w : World) (i at : ℕ) → Joining eid packet w i at → Sound w → Sound (filled eid packet w i at)
+    fill : (w : World) (i at : ℕ) → Joining w₀ packet w i at → Sound w → Sound (filled w₀ packet w i at)
     fill w i at j s = sound-store i _ s (put-store i at (payloadOf packet) (j .fits) s)
 
 pub received-sound : (w : World) (packet : List ℕ) → Sound w → After (received w packet)
 received-sound w packet s =
-    walked w packet Sound After (sound-walk (w .endpoint .eid) packet) s s
+    walked w packet Sound After (sound-walk w packet s) s (λ _. s)
     (λ _. sound-endpoint s (end-valid (fields packet .source) (fields packet .tag) (s .state)))
 
 -- stores that are not refused have their length
@@ -464,7 +465,7 @@ completed-sound w i t body s =
     into : i ≤ 1 → (p : Phase) → After (completedIn w i t body p)
     into is Idle = s
     into is (Receive a) = s
-    into is (Process r) = if-ind After (not (eqb (t .0) (slotAt (w .endpoint) i .ticket .0))) (λ _. s) (λ _. row is r (r .taking))
+    into is (Process r) = if-ind After (not (isPresent t (slotAt (w .endpoint) i))) (λ _. s) (λ _. row is r (r .taking))
     into is (Answered r) = s
     into is (Transmit r) = s
 
@@ -541,9 +542,9 @@ begun-or k Idle other e = there e refl
 begun-or k (Receive a) other e = there e refl
 begun-or k (Process q) other e = there e refl
 begun-or k (Answered q) other e = there e refl
-begun-or k (Transmit q) other {i} {r} e = go (ltb 0 (q .sent)) refl e
+begun-or k (Transmit q) other {i} {r} e = go (hasBegun q) refl e
   where
-    go : (b : Bool) → ltb 0 (q .sent) ≡ b → _≡_ {A = Ready} (if b then From k q else other) (From i r) → Begun k (Transmit q) other i r
+    go : (b : Bool) → hasBegun q ≡ b → _≡_ {A = Ready} (if b then From k q else other) (From i r) → Begun k (Transmit q) other i r
     go true f g = here (cc) (cc) f
     go false f g = there g f
 
@@ -595,7 +596,7 @@ chosen-at e v {i} {r} h = first (begun-or 0 (slotAt e 0 .phase) (begunOr 1 (slot
 
 ready-at : (e : Endpoint) → Valid e → {i : ℕ} {r : Response} → ready e ≡ From i r → Chosen e i r
 unfolding ready
-ready-at e v h = chosen-at e v (if-second (slotAt e 0 .paused || slotAt e 1 .paused) (λ n. absurd (omega (arith, nothing n))) h .1)
+ready-at e v h = chosen-at e v (if-second (anyPaused e) (λ n. absurd (omega (arith, nothing n))) h .1)
   where
     nothing : {i : ℕ} {r : Response} → Nothing ≡ From i r → _≡_ {A = ℕ} 0 1
     nothing n = cc
@@ -669,7 +670,7 @@ polled-valid w buffer v =
     by : (x : Ready) → ready (w .endpoint) ≡ x → PollLeft (polledBy w buffer x)
     by Nothing h = if-ind PollLeft (w .endpoint .«reply_waits») (λ _. control-valid (w .endpoint) buffer v) (λ _. v)
     by (From i r) h =
-        if-ind PollLeft (w .endpoint .«reply_waits» && not (w .endpoint .«last_control»)) (λ _. control-valid (w .endpoint) buffer v)
+        if-ind PollLeft (replyFirst (w .endpoint)) (λ _. control-valid (w .endpoint) buffer v)
         (λ _. command-valid w i r buffer (ready-at (w .endpoint) v h) v)
 
 -- ---- THE LAWS: setup gives the invariant, and every call keeps it, whatever it is given. Stores of the right length keep it.

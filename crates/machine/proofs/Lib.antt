@@ -10,3 +10,4 @@ pub mod Polling
 pub mod Histories
 pub mod Delivery
 pub mod Tickets
+pub mod Refusals

@@ -15,7 +15,7 @@ use Rattle.mctp.specs.Cut.{packets, payload, packet}
 use Rattle.mctp.proofs.Laws.{payload-next}
 use Rattle.machine.specs.State.{World, slotAt, storeAt, withSlot, withEndpoint, idled, replySent, packetSent}
 use Rattle.machine.specs.Wire.{unit, packet-room, wrongStores}
-use Rattle.machine.specs.Poll.{Polled, otherSlot, chosen, ready, isLast, advanced, afterPacket, controlPacket, commandPacket, sentControl, sentCommand, polledBy, polled}
+use Rattle.machine.specs.Poll.{Polled, otherSlot, chosen, anyPaused, ready, replyFirst, isLast, advanced, afterPacket, controlPacket, commandPacket, sentControl, sentCommand, polledBy, polled}
 use Rattle.machine.specs.Valid.{Valid, Sound}
 use Rattle.machine.specs.Calls.{Call, poll, Event, number, handed-out, Stepped, stepped, byPoll, step}
 use Rattle.machine.specs.History.{Log, phaseAt, pausedAt, isTransmit, moved, isPacketOf, sending, transmitted, logAfter, counts}
@@ -83,7 +83,7 @@ poll-case w buffer s =
         unfold sentControl in
         (rw (take-append-seam (controlPacket (w .endpoint)) (drop (length (controlPacket (w .endpoint))) buffer)) (replies a b))
     found : {i : ℕ} {r : Response} → ready (w .endpoint) ≡ From i r → ((pausedAt w 0 || pausedAt w 1) ≡ false) × (chosen (w .endpoint) ≡ From i r)
-    found e = unfold ready in (if-second (pausedAt w 0 || pausedAt w 1) nothing e)
+    found e = unfold ready in (if-second (anyPaused (w .endpoint)) nothing e)
     command-goes : (i : ℕ) (r : Response) → chosen (w .endpoint) ≡ From i r → counts (poll buffer) w ≡ true → After (sentCommand w i r buffer)
     command-goes i r e c =
         unfold sentCommand in (rw (take-append-seam (commandPacket w i r) (drop (length (commandPacket w i r)) buffer)) (sends i r e c))
@@ -92,7 +92,7 @@ poll-case w buffer s =
         if-ind After (w .endpoint .«reply_waits») (λ a. control-goes a (λ c n. absurd (n (unpaused e c)))) (λ _. still 0 (unpaused e))
     by room (From i r) e =
         let k = found e in
-        if-ind After (w .endpoint .«reply_waits» && not (w .endpoint .«last_control»))
+        if-ind After (replyFirst (w .endpoint))
         (λ a. let b = and-both (w .endpoint .«reply_waits») (not (w .endpoint .«last_control»)) a in control-goes (b .0) (λ c n. not-true (w .endpoint .«last_control») (b .1)))
         (λ _. command-goes i r (k .1) (rw (le-leb 68 (length buffer) (ltb-false (length buffer) packet-room room), false-both (pausedAt w 0) (pausedAt w 1) (k .0)) refl))
 

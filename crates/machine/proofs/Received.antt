@@ -22,7 +22,7 @@ use Rattle.nvme_mi.specs.declared.MessageHeader.{MessageHeader}
 use Rattle.nvme_mi.specs.declared.Fault.{Fault}
 use Rattle.nvme_mi.specs.declared.Fault.the-variants.{NoFault, Parameter, Failure}
 use Rattle.machine.specs.State.{World, Outcome, outcome, slotAt, storeAt, withSlot, withStore, withEndpoint, onSlot, withPhase, withBusy, idled, isIdle, settled, nextTicket}
-use Rattle.machine.specs.Wire.{unit, store-size, smallest, opcodeOf, clearsFlags}
+use Rattle.machine.specs.Wire.{unit, store-size, response-place, smallest, opcodeOf, clearsFlags}
 use Rattle.machine.specs.Control.{pausedSlot, pause, resumedSlot, released as releasedPhase, resume, abort, clearFlags, primitive, controlledBy, controlled}
 use Rattle.machine.specs.Process.{request, processing, responseTo, responded, respondedAtOnce, pausedIf, entered as enteredWorld}
 use Rattle.machine.specs.Receive.{refused, refusedBusy, dropped, gathers, isFrom, endedSlot, endAssembly, received}
@@ -39,7 +39,7 @@ use Rattle.machine.specs.declared.Slot.{Slot}
 use Rattle.machine.specs.declared.Endpoint.{Endpoint}
 use Rattle.machine.specs.declared.Acted.{Acted}
 use Rattle.machine.proofs.Slots.{isEarly, false-true, facts-at, from-same, other-most}
-use Rattle.machine.proofs.Receiving.{Origin, opens, goes-on, Joining, filled, grown, whole, Controls, Walk, read-facts, csi-most, walked}
+use Rattle.machine.proofs.Receiving.{Origin, opens, goes-on, Joining, filled, grown, whole, Controls, Ground, in-table, of-no-slot, Break, in-sequence, in-size, in-total, Walk, read-facts, csi-most, walked}
 use Rattle.machine.proofs.Keeps.{received-sound, sound-endpoint, sound-store, store-at, kept-quiet, pause-valid, end-valid}
 use Rattle.machine.proofs.Places.{Which, this, that, which, other-differs, slot-this, slot-that, slot-both, store-this, store-that, take-joined}
 use Rattle.machine.proofs.Fits.{Asked, Full, Fit, FitP, Entry, entered, stayed, Steady, same, newly, released, worked, fell, Carried, quiet-same, quiet-other, refusal-log, carried-same, carried-ended, carried-cut, carried-released, carried-settled, settled-begun, settled-process, next-ticket, response-is, atEntry, fixed-is}
@@ -97,9 +97,19 @@ module _ (w₀ : World) (packet : List ℕ) (log : ℕ → Log) (s₀ : Sound w�
       go (kept q) = rw (sym q) h
       go (ended _ early q) = early
 
-  refusing : (w : World) (n : ℕ) → 3 ≤ n → Mid w → Ends (refused w n)
+  -- a refusal's number is never that of a packet that is taken in
+  ground-least : {n : ℕ} → Ground w₀ packet n → 3 ≤ n
+  ground-least (in-table _ lo _) = omega arith
+  ground-least (of-no-slot _) = omega arith
+
+  break-least : {n : ℕ} → Break w₀ packet n → 3 ≤ n
+  break-least (in-sequence _) = omega arith
+  break-least (in-size _) = omega arith
+  break-least (in-total _) = omega arith
+
+  refuse : (w : World) (n : ℕ) → 3 ≤ n → Mid w → Ends (refused w n)
   unfolding refused
-  refusing w n h m =
+  refuse w n h m =
       record {
         turn-is = m .turn-is;
         last-is = m .last-is;
@@ -155,9 +165,10 @@ module _ (w₀ : World) (packet : List ℕ) (log : ℕ → Log) (s₀ : Sound w�
         this-slot = rw (a, m .stores i) (mid-carried w m 20 i is s refl refl);
       })
 
-  dropping : (w : World) (i n : ℕ) → 3 ≤ n → i ≤ 1 → isEarly (phaseAt w i) ≡ true → Mid w → Ends (refused (dropped w i) n)
+  dropping : (w : World) (i n : ℕ) → Break w₀ packet n → i ≤ 1 → isEarly (phaseAt w i) ≡ true → Mid w → Ends (refused (dropped w i) n)
   unfolding refused
-  dropping w i n h is early m =
+  dropping w i n k is early m =
+      let h = break-least k in
       let v = m .sound .state in
       let s = idled (slotAt (w .endpoint) i) in
       let a : slotAt (withSlot (w .endpoint) i s) i ≡ s = slot-this i is v s in
@@ -175,7 +186,7 @@ module _ (w₀ : World) (packet : List ℕ) (log : ℕ → Log) (s₀ : Sound w�
           (carried-ended (storeAt w i) n (was-early w m i is early) refl (m .tickets i is) (fits i is .ticket-is));
       })
 
-  failing : (w : World) (i at : ℕ) → Joining eid₀ packet w i at → Mid w → Ends (refused (dropped (filled eid₀ packet w i at) i) 19)
+  failing : (w : World) (i at : ℕ) → Joining w₀ packet w i at → Mid w → Ends (refused (dropped (filled w₀ packet w i at) i) 19)
   unfolding refused
   failing w i at j m =
       let v = m .sound .state in
@@ -183,7 +194,7 @@ module _ (w₀ : World) (packet : List ℕ) (log : ℕ → Log) (s₀ : Sound w�
       let s = idled (slotAt (w .endpoint) i) in
       let a : slotAt (withSlot (w .endpoint) i s) i ≡ s = slot-this i is v s in
       let b : slotAt (withSlot (w .endpoint) i s) (otherSlot i) ≡ slotAt (w .endpoint) (otherSlot i) = slot-that i is v s in
-      one-slot w i (refused (dropped (filled eid₀ packet w i at) i) 19) is m
+      one-slot w i (refused (dropped (filled w₀ packet w i at) i) 19) is m
       (record {
         turn-same = refl;
         last-same = refl;
@@ -214,23 +225,23 @@ module _ (w₀ : World) (packet : List ℕ) (log : ℕ → Log) (s₀ : Sound w�
   csi-is : byteAt packet 5 % 2 ≡ byteAt (payloadOf packet) 1 % 2
   csi-is = rw (getD-drop 4 packet 1 0) refl
 
-  for-this : (w : World) (i at : ℕ) → Mid w → Joining eid₀ packet w i at → isFor i packet w₀ ≡ true
+  for-this : (w : World) (i at : ℕ) → Mid w → Joining w₀ packet w i at → isFor i packet w₀ ≡ true
   for-this w i at m j = go (j .origin)
     where
-      go : {n : ℕ} → Origin eid₀ packet w i n → isFor i packet w₀ ≡ true
+      go : {n : ℕ} → Origin w₀ packet w i n → isFor i packet w₀ ≡ true
       go (opens som e) = rw som (eq-eqb (byteAt packet 5 % 2) i (csi-is ∙ sym e))
       go (goes-on som a ph fr) =
           rw (som, receives-gathers (sourceOf packet) (messageTagOf packet) (phaseAt w₀ i), sym (phase-before w m i (j .slot-is) som), ph) fr
 
-  for-that : (w : World) (i at : ℕ) → Mid w → Joining eid₀ packet w i at → isFor (otherSlot i) packet w₀ ≡ false
+  for-that : (w : World) (i at : ℕ) → Mid w → Joining w₀ packet w i at → isFor (otherSlot i) packet w₀ ≡ false
   for-that w i at m j = go (j .origin)
     where
-      go : {n : ℕ} → Origin eid₀ packet w i n → isFor (otherSlot i) packet w₀ ≡ false
+      go : {n : ℕ} → Origin w₀ packet w i n → isFor (otherSlot i) packet w₀ ≡ false
       go (opens som e) = rw som (ne-eqb (byteAt packet 5 % 2) (otherSlot i) (λ k. other-differs i (j .slot-is) (sym k ∙ csi-is ∙ sym e)))
       go (goes-on som a ph fr) =
           rw (som, receives-gathers (sourceOf packet) (messageTagOf packet) (phaseAt w₀ (otherSlot i)), sym (phase-before w m (otherSlot i) (other-most i) som)) (j .alone)
 
-  that-gains : (w : World) (i at : ℕ) → Mid w → Joining eid₀ packet w i at → (n : ℕ)
+  that-gains : (w : World) (i at : ℕ) → Mid w → Joining w₀ packet w i at → (n : ℕ)
       → commanded (otherSlot i) (receive packet) w₀ (number n) (log (otherSlot i)) ≡ log (otherSlot i)
   that-gains w i at m j n = rw (for-that w i at m j) (none (eqb n 0) (eqb n 1))
     where
@@ -241,27 +252,27 @@ module _ (w₀ : World) (packet : List ℕ) (log : ℕ → Log) (s₀ : Sound w�
       none false false = refl
 
   -- the store's front is then the request so far
-  front : (w : World) (i at : ℕ) → Mid w → Joining eid₀ packet w i at → whole eid₀ packet w i at ≡ requestWith packet (log i)
+  front : (w : World) (i at : ℕ) → Mid w → Joining w₀ packet w i at → whole w₀ packet w i at ≡ requestWith packet (log i)
   front w i at m j = rw (store-this w i (j .slot-is) (put (storeAt w i) at (payloadOf packet))) (go (j .fits) (j .origin))
     where
       room : {n : ℕ} → n + length (payloadOf packet) ≤ store-size → n ≤ length (storeAt w i)
       room h = rw (store-at i (m .sound)) (omega arith)
-      go : {n : ℕ} → n + length (payloadOf packet) ≤ store-size → Origin eid₀ packet w i n → take (n + length (payloadOf packet)) (put (storeAt w i) n (payloadOf packet)) ≡ requestWith packet (log i)
+      go : {n : ℕ} → n + length (payloadOf packet) ≤ store-size → Origin w₀ packet w i n → take (n + length (payloadOf packet)) (put (storeAt w i) n (payloadOf packet)) ≡ requestWith packet (log i)
       go h (opens som e) = rw som (take-joined (storeAt w i) 0 (payloadOf packet) (room h))
       go h (goes-on som a ph fr) =
           let before : take (a .length) (storeAt w₀ i) ≡ log i .request =
                 rw (sym (phase-before w m i (j .slot-is) som) ∙ ph) at (fits i (j .slot-is) .phase-fits) in
           rw som (take-joined (storeAt w i) (a .length) (payloadOf packet) (room h) ∙ rw (m .stores i, before) refl)
 
-  gain : (w : World) (i at : ℕ) → Joining eid₀ packet w i at → unit ≤ at + length (payloadOf packet) → Mid w
-      → Ends (outcome 0 (onSlot (filled eid₀ packet w i at) i (withPhase (slotAt (w .endpoint) i) (Receive (grown eid₀ packet at)))))
+  gain : (w : World) (i at : ℕ) → Joining w₀ packet w i at → unit ≤ at + length (payloadOf packet) → Mid w
+      → Ends (outcome 0 (onSlot (filled w₀ packet w i at) i (withPhase (slotAt (w .endpoint) i) (Receive (grown w₀ packet at)))))
   gain w i at j lo m =
       let v = m .sound .state in
       let is = j .slot-is in
-      let s = withPhase (slotAt (w .endpoint) i) (Receive (grown eid₀ packet at)) in
+      let s = withPhase (slotAt (w .endpoint) i) (Receive (grown w₀ packet at)) in
       let a : slotAt (withSlot (w .endpoint) i s) i ≡ s = slot-this i is v s in
       let b : slotAt (withSlot (w .endpoint) i s) (otherSlot i) ≡ slotAt (w .endpoint) (otherSlot i) = slot-that i is v s in
-      one-slot w i (outcome 0 (onSlot (filled eid₀ packet w i at) i s)) is m
+      one-slot w i (outcome 0 (onSlot (filled w₀ packet w i at) i s)) is m
       (record {
         turn-same = refl;
         last-same = refl;
@@ -270,7 +281,7 @@ module _ (w₀ : World) (packet : List ℕ) (log : ℕ → Log) (s₀ : Sound w�
         that-store = store-that w i is _;
         that-log = that-gains w i at m j 0;
         this-slot =
-          rw (a, for-this w i at m j, quiet-other (phaseAt w₀ i) (Receive (grown eid₀ packet at)) 0 (gaining packet (log i)) refl)
+          rw (a, for-this w i at m j, quiet-other (phaseAt w₀ i) (Receive (grown w₀ packet at)) 0 (gaining packet (log i)) refl)
           (record {
             fit = record { phase-fits = front w i at m j; ticket-is = rw (m .tickets i is) (fits i is .ticket-is) };
             entry = stayed refl (λ h. false-true h);
@@ -313,15 +324,15 @@ module _ (w₀ : World) (packet : List ℕ) (log : ℕ → Log) (s₀ : Sound w�
   paused-alike : (b : Bool) (e : Endpoint) → Alike e (pausedIf b e)
   paused-alike b e = if-ind (Alike e) b (λ _. pause-alike e) (λ _. itself e)
 
-  module _ (w : World) (i at : ℕ) (j : Joining eid₀ packet w i at) (lo : smallest ≤ at + length (payloadOf packet)) (m : Mid w) where
+  module _ (w : World) (i at : ℕ) (j : Joining w₀ packet w i at) (lo : smallest ≤ at + length (payloadOf packet)) (m : Mid w) where
     abbrev asked : List ℕ
     asked = requestWith packet (log i)
 
     abbrev mh : MessageHeader
-    mh = messageHeader (whole eid₀ packet w i at)
+    mh = messageHeader (whole w₀ packet w i at)
 
     abbrev command : Request
-    command = request (grown eid₀ packet at) mh
+    command = request (grown w₀ packet at) mh
 
     abbrev e₁ : Endpoint
     e₁ = withSlot (w .endpoint) i (processing (slotAt (w .endpoint) i) command)
@@ -330,7 +341,7 @@ module _ (w₀ : World) (packet : List ℕ) (log : ℕ → Log) (s₀ : Sound w�
     e₂ = pausedIf (mh .ciap) e₁
 
     abbrev w₂ : World
-    w₂ = withEndpoint (filled eid₀ packet w i at) e₂
+    w₂ = withEndpoint (filled w₀ packet w i at) e₂
 
     e₁-valid : Valid e₁
     e₁-valid = kept-quiet i (j .slot-is) (m .sound .state) (processing (slotAt (w .endpoint) i) command) (lo, j .fits) refl
@@ -362,14 +373,14 @@ module _ (w₀ : World) (packet : List ℕ) (log : ℕ → Log) (s₀ : Sound w�
               alike .same-ticket i (j .slot-is) ∙ rw (this-at, m .tickets i (j .slot-is)) refl in
         rw t (next-ticket (slotAt (w₀ .endpoint) i .ticket .0) (log i .entries) (fits i (j .slot-is) .ticket-is))
 
-    whole-is : whole eid₀ packet w i at ≡ asked
+    whole-is : whole w₀ packet w i at ≡ asked
     whole-is = front w i at m j
 
     size-is : at + length (payloadOf packet) ≡ length asked
     size-is =
-        let room : at + length (payloadOf packet) ≤ length (storeAt (filled eid₀ packet w i at) i) =
+        let room : at + length (payloadOf packet) ≤ length (storeAt (filled w₀ packet w i at) i) =
               rw (store-this w i (j .slot-is) (put (storeAt w i) at (payloadOf packet)), length-put (storeAt w i) at (payloadOf packet) fit, store-at i (m .sound)) (j .fits) in
-        rw (sym whole-is) (sym (length-take-le (at + length (payloadOf packet)) (storeAt (filled eid₀ packet w i at) i) room))
+        rw (sym whole-is) (sym (length-take-le (at + length (payloadOf packet)) (storeAt (filled w₀ packet w i at) i) room))
       where
         fit : at + length (payloadOf packet) ≤ length (storeAt w i)
         fit = rw (store-at i (m .sound)) (j .fits)
@@ -412,17 +423,17 @@ module _ (w₀ : World) (packet : List ℕ) (log : ℕ → Log) (s₀ : Sound w�
         let a : slotAt (withSlot e₂ i s) i ≡ s = slot-this i is e₂-valid s in
         let c : slotAt (withSlot e₂ i s) (otherSlot i) ≡ slotAt e₂ (otherSlot i) = slot-that i is e₂-valid s in
         let text = response (command .kind) i body in
-        let stored : storeAt (withStore w₂ i (put (storeAt w₂ i) 0 text)) i ≡ put (storeAt w₂ i) 0 text = store-this w₂ i is (put (storeAt w₂ i) 0 text) in
+        let stored : storeAt (withStore w₂ i (put (storeAt w₂ i) response-place text)) i ≡ put (storeAt w₂ i) response-place text = store-this w₂ i is (put (storeAt w₂ i) response-place text) in
         let n : length text ≡ length body + 8 = length-response (command .kind) i body in
         let text-is : text ≡ fixedAtEntry i asked = rw whole-is (response-is i asked body is) ∙ sym fixed in
-        let lies : take (length body + 8) (put (storeAt w₂ i) 0 text) ≡ text = rw (sym n) (take-put (storeAt w₂ i) text) in
+        let lies : take (length body + 8) (put (storeAt w₂ i) response-place text) ≡ text = rw (sym n) (take-put (storeAt w₂ i) text) in
         one-slot w i (outcome 1 (responded w₂ i command body)) is m
         (record {
           turn-same = alike .same-turn;
           last-same = alike .same-last;
           that-phase = rw c that-phase;
           that-ticket = rw c that-ticket;
-          that-store = store-that w₂ i is (put (storeAt w₂ i) 0 text) ∙ store-that w i is _;
+          that-store = store-that w₂ i is (put (storeAt w₂ i) response-place text) ∙ store-that w i is _;
           that-log = that-gains w i at m j 1;
           this-slot =
             rw (a, for-this w i at m j)
@@ -439,10 +450,10 @@ module _ (w₀ : World) (packet : List ℕ) (log : ℕ → Log) (s₀ : Sound w�
         go (Parameter byte bit) k = answered (faultBody (Parameter byte bit)) k
         go (Failure status) k = answered (faultBody (Failure status)) k
 
-  enter : (w : World) (i at : ℕ) → Joining eid₀ packet w i at → smallest ≤ at + length (payloadOf packet) → Mid w
-      → Ends (outcome 1 (enteredWorld (filled eid₀ packet w i at) i (grown eid₀ packet at) (messageHeader (whole eid₀ packet w i at))))
+  enter : (w : World) (i at : ℕ) → Joining w₀ packet w i at → smallest ≤ at + length (payloadOf packet) → Mid w
+      → Ends (outcome 1 (enteredWorld (filled w₀ packet w i at) i (grown w₀ packet at) (messageHeader (whole w₀ packet w i at))))
   unfolding enteredWorld
-  enter w i at j lo m = at-once w i at j lo m (commandFault (messageHeader (whole eid₀ packet w i at)) (at + length (payloadOf packet))) refl
+  enter w i at j lo m = at-once w i at j lo m (commandFault (messageHeader (whole w₀ packet w i at)) (at + length (payloadOf packet))) refl
 
   -- ---- a control primitive
 
@@ -526,7 +537,7 @@ module _ (w₀ : World) (packet : List ℕ) (log : ℕ → Log) (s₀ : Sound w�
   byte-of : (k : ℕ) → byteAt packet (4 + k) ≡ byteAt (payloadOf packet) k
   byte-of k = rw (getD-drop 4 packet k 0) refl
 
-  is-abort : Controls eid₀ packet → controlFault (messageHeader (payloadOf packet)) (opcodeOf (payloadOf packet)) ≡ NoFault
+  is-abort : Controls w₀ packet → controlFault (messageHeader (payloadOf packet)) (opcodeOf (payloadOf packet)) ≡ NoFault
       → opcodeOf (payloadOf packet) ≡ 2 → Cut (messageHeader (payloadOf packet) .csi)
   is-abort c f o =
       let r = read-facts eid₀ packet (c .read-so) in
@@ -565,7 +576,7 @@ module _ (w₀ : World) (packet : List ℕ) (log : ℕ → Log) (s₀ : Sound w�
       (λ _.
       alike-acts w m _ (if-ind (Alike (w .endpoint)) clear (λ _. clear-alike (w .endpoint) (m .sound .state) i is) (λ _. itself (w .endpoint))))))
 
-  control : (w : World) → Controls eid₀ packet → Mid w
+  control : (w : World) → Controls w₀ packet → Mid w
       → Ends (outcome 2 (withEndpoint w (controlled (w .endpoint) (fields packet) (messageHeader (payloadOf packet)) (payloadOf packet))))
   unfolding controlled
   control w c m = go (controlFault (messageHeader (payloadOf packet)) (opcodeOf (payloadOf packet))) refl
@@ -594,11 +605,15 @@ module _ (w₀ : World) (packet : List ℕ) (log : ℕ → Log) (s₀ : Sound w�
 
   -- ---- the whole
 
-  the-walk : Walk eid₀ packet Mid Ends
+  start-mid : Mid w₀
+  start-mid = record { sound = s₀; turn-is = refl; last-is = refl; stores = λ j. refl; tickets = λ j js. refl; phases = λ j js. kept refl }
+
+  the-walk : Walk w₀ packet Mid Ends
   the-walk =
       record {
         sound = λ w m. m .sound;
-        refusing = refusing;
+        unread = λ n lo _. refuse w₀ n (omega arith) start-mid;
+        refusing = λ w n k m. refuse w n (ground-least k) m;
         busying = busying;
         dropping = dropping;
         failing = failing;
@@ -606,9 +621,6 @@ module _ (w₀ : World) (packet : List ℕ) (log : ℕ → Log) (s₀ : Sound w�
         entering = enter;
         controlling = control;
       }
-
-  start-mid : Mid w₀
-  start-mid = record { sound = s₀; turn-is = refl; last-is = refl; stores = λ j. refl; tickets = λ j js. refl; phases = λ j js. kept refl }
 
   -- an assembly under this source and tag ends
   gathers-early : (source tag : ℕ) (p : Phase) → gathers source tag p ≡ true → isEarly p ≡ true
@@ -640,4 +652,4 @@ module _ (w₀ : World) (packet : List ℕ) (log : ℕ → Log) (s₀ : Sound w�
           (λ g. ended som (gathers-early (fields packet .source) (fields packet .tag) (s .phase) g) refl) (λ _. kept refl)
 
   pub received-carries : Carries (receive packet) w₀ log (byOutcome (received w₀ packet))
-  received-carries = walked w₀ packet Mid Ends the-walk s₀ start-mid ended-mid
+  received-carries = walked w₀ packet Mid Ends the-walk s₀ (λ _. start-mid) ended-mid

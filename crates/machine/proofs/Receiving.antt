@@ -72,24 +72,24 @@ pub record Joins (h : Header) (gathered n : ℕ) : Type 0 where
   pub whole-unit : isCut unit h n ≡ false
   pub fits : gathered + n ≤ store-size
 
--- a refusal's number
+-- a header's refusal has a number from 10 to 14
 abbrev Numbered : Read → Type 0
-Numbered (Refused n) = 3 ≤ n
+Numbered (Refused n) = (10 ≤ n) × (n ≤ 14)
 Numbered (Packet h) = Unit {0}
 
 numbered : (eid : ℕ) (packet : List ℕ) → Numbered (readHeader eid unit inward packet)
 unfolding readHeader
 numbered eid packet =
-    if-ind Numbered (ltb (length packet) 5) (λ _. omega arith)
+    if-ind Numbered (ltb (length packet) 5) (λ _. (omega arith, omega arith))
     (λ _.
-    if-ind Numbered (ltb (unit + 4) (length packet)) (λ _. omega arith)
+    if-ind Numbered (ltb (unit + 4) (length packet)) (λ _. (omega arith, omega arith))
     (λ _.
-    if-ind Numbered (not (eqb (byteAt packet 0 % 16) 1)) (λ _. omega arith)
+    if-ind Numbered (not (eqb (byteAt packet 0 % 16) 1)) (λ _. (omega arith, omega arith))
     (λ _.
-    if-ind Numbered (not (eqb (byteAt packet 1) eid)) (λ _. omega arith)
-    (λ _. if-ind Numbered (not (same (isSet (byteAt packet 3) 3) inward)) (λ _. omega arith) (λ _. tt)))))
+    if-ind Numbered (not (eqb (byteAt packet 1) eid)) (λ _. (omega arith, omega arith))
+    (λ _. if-ind Numbered (not (same (isSet (byteAt packet 3) 3) inward)) (λ _. (omega arith, omega arith)) (λ _. tt)))))
 
-read-number : (eid : ℕ) (packet : List ℕ) {n : ℕ} → readHeader eid unit inward packet ≡ Refused n → 3 ≤ n
+read-number : (eid : ℕ) (packet : List ℕ) {n : ℕ} → readHeader eid unit inward packet ≡ Refused n → (10 ≤ n) × (n ≤ 14)
 read-number eid packet {n} e = rw e at (numbered eid packet)
 
 -- what is known of a packet that is read
@@ -131,17 +131,6 @@ joins sequence gathered n h e =
     let c = if-second (ltb store-size (gathered + n)) (not-zero 22) (b .1) in
     record { whole-unit = b .0; fits = ltb-false store-size (gathered + n) (c .0) }
 
-abbrev Joined? : ℕ → Type 0
-Joined? x = eqb x 0 ≡ false → 3 ≤ x
-
-join-number : (sequence gathered n : ℕ) (h : Header) → Joined? (joinRefusal unit store-size sequence gathered h n)
-unfolding joinRefusal
-join-number sequence gathered n h =
-    if-ind Joined? (not (eqb (h .sequence) ((sequence + 1) % 4))) (λ _ _. omega arith)
-    (λ _.
-    if-ind Joined? (isCut unit h n) (λ _ _. omega arith)
-    (λ _. if-ind Joined? (ltb store-size (gathered + n)) (λ _ _. omega arith) (λ _ e. false-true (sym e))))
-
 pub right-stores : (w : World) → Sound w → wrongStores w ≡ false
 right-stores w s = rw (s .size0, s .size1) refl
 
@@ -151,7 +140,7 @@ csi-most m = omega (arith, mod-lt (byteAt m 1) (zero-lt-suc 1))
 
 -- ---- the steps, and what is known at each
 
-module _ (eid : ℕ) (packet : List ℕ) where
+module _ (w₀ : World) (packet : List ℕ) where
   abbrev pub header : Header
   header = fields packet
 
@@ -184,7 +173,7 @@ module _ (eid : ℕ) (packet : List ℕ) where
 
   -- a control primitive that came whole, with a right check
   pub record Controls : Type 0 where
-    pub read-so : readHeader eid unit inward packet ≡ Packet header
+    pub read-so : readHeader (w₀ .endpoint .eid) unit inward packet ≡ Packet header
     pub som : hasSom packet ≡ true
     pub eom : header .eom ≡ true
     pub twelve : length message ≡ control-size
@@ -193,14 +182,27 @@ module _ (eid : ℕ) (packet : List ℕ) where
     pub kind : messageHeader message .nmimt ≡ control
     pub right : checkRight message ≡ true
 
+  -- where a packet is refused without its slot: by the second table, or because no slot is in Receive with its source and tag
+  pub data Ground : ℕ → Type 0 where
+    in-table : {n : ℕ} → hasSom packet ≡ true → 15 ≤ n → n ≤ 19 → Ground n
+    of-no-slot : hasSom packet ≡ false → Ground 21
+
+  -- and where its slot goes to Idle: 22, 16, 23
+  pub data Break : ℕ → Type 0 where
+    in-sequence : hasSom packet ≡ false → Break 22
+    in-size : hasSom packet ≡ false → Break 16
+    in-total : hasSom packet ≡ false → Break 23
+
   -- P holds on the way, Q of what receiving answers and leaves
   pub record Walk (P : World → Type 0) (Q : Outcome → Type 0) : Type 0 where
     pub sound : (w : World) → P w → Sound w
-    -- a refusal's number is never that of an accepted packet
-    pub refusing : (w : World) (n : ℕ) → 3 ≤ n → P w → Q (refused w n)
+    -- the header is refused
+    pub unread : (n : ℕ) → 10 ≤ n → n ≤ 14 → Q (refused w₀ n)
+    -- the packet is refused, and no slot with it
+    pub refusing : (w : World) (n : ℕ) → Ground n → P w → Q (refused w n)
     pub busying : (w : World) (i : ℕ) → i ≤ 1 → P w → Q (refusedBusy w i)
-    -- and the slot goes to Idle
-    pub dropping : (w : World) (i n : ℕ) → 3 ≤ n → i ≤ 1 → isEarly (slotAt (w .endpoint) i .phase) ≡ true → P w → Q (refused (dropped w i) n)
+    -- the packet is refused, and the slot that it was for goes to Idle
+    pub dropping : (w : World) (i n : ℕ) → Break n → i ≤ 1 → isEarly (slotAt (w .endpoint) i .phase) ≡ true → P w → Q (refused (dropped w i) n)
     pub failing : (w : World) (i at : ℕ) → Joining w i at → P w → Q (refused (dropped (filled w i at) i) check-wrong)
     pub gaining : (w : World) (i at : ℕ) → Joining w i at → unit ≤ at + length message → P w
         → Q (outcome more-to-come (onSlot (filled w i at) i (withPhase (slotAt (w .endpoint) i) (Receive (grown at)))))
@@ -210,29 +212,40 @@ module _ (eid : ℕ) (packet : List ℕ) where
 
 -- ---- the walk
 
-module _ (eid : ℕ) (packet : List ℕ) (P : World → Type 0) (Q : Outcome → Type 0) (k : Walk eid packet P Q) where
+abbrev Breaks : World → List ℕ → ℕ → Type 0
+Breaks w packet x = eqb x 0 ≡ false → Break w packet x
+
+join-break : (w : World) (packet : List ℕ) → hasSom packet ≡ false → (sequence gathered n : ℕ) (h : Header) → Breaks w packet (joinRefusal unit store-size sequence gathered h n)
+unfolding joinRefusal
+join-break w packet som sequence gathered n h =
+    if-ind (Breaks w packet) (not (eqb (h .sequence) ((sequence + 1) % 4))) (λ _ _. in-sequence som)
+    (λ _.
+    if-ind (Breaks w packet) (isCut unit h n) (λ _ _. in-size som)
+    (λ _. if-ind (Breaks w packet) (ltb store-size (gathered + n)) (λ _ _. in-total som) (λ _ e. false-true (sym e))))
+
+module _ (w₀ : World) (packet : List ℕ) (P : World → Type 0) (Q : Outcome → Type 0) (k : Walk w₀ packet P Q) where
   abbrev H : Header
   H = fields packet
 
   abbrev M : List ℕ
   M = payloadOf packet
 
-  gathered-walk : (w : World) (i at : ℕ) → Joining eid packet w i at → (H .eom ≡ true → smallest ≤ at + length M)
+  gathered-walk : (w : World) (i at : ℕ) → Joining w₀ packet w i at → (H .eom ≡ true → smallest ≤ at + length M)
       → (H .eom ≡ false → unit ≤ at + length M) → P w → Q (gathered w i at H M)
   unfolding gathered joined checked
   gathered-walk w i at j last more p =
       if-ind Q (H .eom)
       (λ e.
-      if-ind Q (not (checkRight (take (at + length M) (storeAt (filled eid packet w i at) i)))) (λ _. k .failing w i at j p) (λ _. k .entering w i at j (last e) p))
+      if-ind Q (not (checkRight (take (at + length M) (storeAt (filled w₀ packet w i at) i)))) (λ _. k .failing w i at j p) (λ _. k .entering w i at j (last e) p))
       (λ e. k .gaining w i at j (more e) p)
 
-  control-walk : (w : World) → readHeader eid unit inward packet ≡ Packet H → H .som ≡ true → byteAt M 0 ≡ message-type
+  control-walk : (w : World) → readHeader (w₀ .endpoint .eid) unit inward packet ≡ Packet H → H .som ≡ true → byteAt M 0 ≡ message-type
       → messageHeader M .ror ≡ false → messageHeader M .nmimt ≡ control → P w → Q (firstControl w H (messageHeader M) M)
   unfolding firstControl
   control-walk w read-so som typed request kind p =
-      if-ind Q (not (H .eom) || not (eqb (length M) control-size)) (λ _. k .refusing w not-twelve (omega arith) p)
+      if-ind Q (not (H .eom) || not (eqb (length M) control-size)) (λ _. k .refusing w not-twelve (in-table som (omega arith) (omega arith)) p)
       (λ one.
-      if-ind Q (not (checkRight M)) (λ _. k .refusing w check-wrong (omega arith) p)
+      if-ind Q (not (checkRight M)) (λ _. k .refusing w check-wrong (in-table som (omega arith) (omega arith)) p)
       (λ right.
       k .controlling w
       (record {
@@ -269,16 +282,16 @@ module _ (eid : ℕ) (packet : List ℕ) (P : World → Type 0) (Q : Outcome →
       })
       (λ e. omega (arith, last e)) (λ e. omega (arith, more e)) p)
 
-  first-walk : (w : World) → readHeader eid unit inward packet ≡ Packet H → Free w → H .som ≡ true → length M ≤ unit → P w → Q (first w H M)
+  first-walk : (w : World) → readHeader (w₀ .endpoint .eid) unit inward packet ≡ Packet H → Free w → H .som ≡ true → length M ≤ unit → P w → Q (first w H M)
   unfolding first firstMessage
   first-walk w read-so free som hi p =
-      if-ind Q (not (eqb (byteAt M 0) message-type)) (λ _. k .refusing w not-a-request (omega arith) p)
+      if-ind Q (not (eqb (byteAt M 0) message-type)) (λ _. k .refusing w not-a-request (in-table som (omega arith) (omega arith)) p)
       (λ typed.
-      if-ind Q (isCut unit H (length M)) (λ _. k .refusing w not-full (omega arith) p)
+      if-ind Q (isCut unit H (length M)) (λ _. k .refusing w not-full (in-table som (omega arith) (omega arith)) p)
       (λ cut.
-      if-ind Q (H .eom && ltb (length M) smallest) (λ _. k .refusing w message-too-short (omega arith) p)
+      if-ind Q (H .eom && ltb (length M) smallest) (λ _. k .refusing w message-too-short (in-table som (omega arith) (omega arith)) p)
       (λ short.
-      if-ind Q (messageHeader M .ror) (λ _. k .refusing w not-a-request (omega arith) p)
+      if-ind Q (messageHeader M .ror) (λ _. k .refusing w not-a-request (in-table som (omega arith) (omega arith)) p)
       (λ request.
       if-ind Q (eqb (messageHeader M .nmimt) control)
       (λ kind.
@@ -304,25 +317,26 @@ module _ (eid : ℕ) (packet : List ℕ) (P : World → Type 0) (Q : Outcome →
       gathered-walk w i (a .length)
       (record { slot-is = is; early = early; alone = free; fits = j .fits; origin = goes-on som a (held .gathers-it) (held .from-it) })
       (λ _. omega (arith, size .0)) (λ _. omega (arith, size .0)) p)
-      (λ some. k .dropping w i refusal (join-number (a .sequence) (a .length) (length M) H some) is early p)
+      (λ some. k .dropping w i refusal (join-break w₀ packet som (a .sequence) (a .length) (length M) H some) is early p)
 
   later-walk : (w : World) → H .som ≡ false → 1 ≤ length M → P w → Q (later w H M)
   unfolding later
   later-walk w som lo p = go (holder (w .endpoint) (H .source) (H .tag)) refl
     where
       go : (x : Holder) → holder (w .endpoint) (H .source) (H .tag) ≡ x → Q (laterBy w H M x)
-      go Nowhere e = k .refusing w no-assembly (omega arith) p
+      go Nowhere e = k .refusing w no-assembly (of-no-slot som) p
       go (At i a) e = later-at w i a (holder-at (w .endpoint) (H .source) (H .tag) e) som lo p
 
--- A packet that stores of the right length are lent to. `ended` is the world in which an assembly with its source and tag has ended.
-pub walked : (w : World) (packet : List ℕ) (P : World → Type 0) (Q : Outcome → Type 0) → Walk (w .endpoint .eid) packet P Q → Sound w
-    → P w → (fields packet .som ≡ true → P (withEndpoint w (endAssembly (w .endpoint) (fields packet .source) (fields packet .tag)))) → Q (received w packet)
+-- A packet that comes with stores of the right length: without SOM the walk starts in the world as it is, with SOM where an assembly with its
+-- source and tag has ended.
+pub walked : (w : World) (packet : List ℕ) (P : World → Type 0) (Q : Outcome → Type 0) → Walk w packet P Q → Sound w
+    → (fields packet .som ≡ false → P w) → (fields packet .som ≡ true → P (withEndpoint w (endAssembly (w .endpoint) (fields packet .source) (fields packet .tag)))) → Q (received w packet)
 unfolding received
 walked w packet P Q k s p finished =
     rw (right-stores w s) (by (readHeader (w .endpoint .eid) unit inward packet) refl)
   where
     by : (r : Read) → readHeader (w .endpoint .eid) unit inward packet ≡ r → Q (receivedBy w (payloadOf packet) r)
-    by (Refused n) e = k .refusing w n (read-number (w .endpoint .eid) packet e) p
+    by (Refused n) e = let b = read-number (w .endpoint .eid) packet e in k .unread n (b .0) (b .1)
     by (Packet h) e =
         let f : h ≡ fields packet = read-facts (w .endpoint .eid) packet e .fields-are in
         let read-so : readHeader (w .endpoint .eid) unit inward packet ≡ Packet (fields packet) = rw f at e in
@@ -330,6 +344,6 @@ walked w packet P Q k s p finished =
         rw f
         (if-ind Q (fields packet .som)
         (λ som.
-        first-walk (w .endpoint .eid) packet P Q k (withEndpoint w (endAssembly (w .endpoint) (fields packet .source) (fields packet .tag))) read-so
+        first-walk w packet P Q k (withEndpoint w (endAssembly (w .endpoint) (fields packet .source) (fields packet .tag))) read-so
         (λ i is. ended-at (w .endpoint) (fields packet .source) (fields packet .tag) i is) som (z .most) (finished som))
-        (λ som. later-walk (w .endpoint .eid) packet P Q k w som (z .some) p))
+        (λ som. later-walk w packet P Q k w som (z .some) (p som)))

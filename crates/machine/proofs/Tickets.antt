@@ -14,7 +14,7 @@ use Rattle.lent.proofs.Choice.{if-ind, if-second}
 use Rattle.mctp.specs.Cut.{packet}
 use Rattle.machine.specs.State.{World, outcome, slotAt, storeAt, withSlot}
 use Rattle.machine.specs.Wire.{unit, wrongStores}
-use Rattle.machine.specs.Finish.{isSlot, takenRequest, takeEnded, takenRow, takenFrom, taken, partOf, part, isBody, completedRow, completedIn, completed}
+use Rattle.machine.specs.Finish.{isSlot, takenRequest, takeEnded, takenRow, takenFrom, taken, partOf, part, isBody, isPresent, completedRow, completedIn, completed}
 use Rattle.machine.specs.Poll.{otherSlot, afterPacket, controlPacket, commandPacket}
 use Rattle.machine.specs.Valid.{PhaseFacts, Sound}
 use Rattle.machine.specs.Calls.{Call, take!, read, complete, poll, Event, number, given, part-read, handed-out, Stepped, stepped, takeEvent, byTake, byOutcome, step}
@@ -140,7 +140,12 @@ other-refused w s i is t body n = rw (right-stores w s, slot-yes i is) (into (ph
     into : (p : Phase) → _≡_ {A = Event} (number (completedIn w i t body p .answer)) (number (if isProcess p then 32 else 31))
     into Idle = refl
     into (Receive a) = refl
-    into (Process r) = rw (ne-eqb (t .0) (slotAt (w .endpoint) i .ticket .0) n) refl
+    into (Process r) = go (isPresent t (slotAt (w .endpoint) i)) refl
+      where
+        go : (x : Bool) → isPresent t (slotAt (w .endpoint) i) ≡ x
+            → _≡_ {A = Event} (number ((if not x then outcome 32 w else completedRow w i r body (r .taking)) .answer)) (number 32)
+        go true e = absurd (n (eqb-true (t .0) (slotAt (w .endpoint) i .ticket .0) e))
+        go false e = refl
     into (Answered r) = refl
     into (Transmit r) = refl
 
@@ -170,9 +175,9 @@ accepted w s i is t body e = into (phaseAt w i) (rw (right-stores w s, slot-yes 
     into : (p : Phase) → _≡_ {A = Event} (number (completedIn w i t body p .answer)) (number 0) → (isProcess p ≡ true) × (t .0 ≡ slotAt (w .endpoint) i .ticket .0)
     into Idle q = refused 30 q
     into (Receive a) q = refused 30 q
-    into (Process r) q = (refl, go (eqb (t .0) (slotAt (w .endpoint) i .ticket .0)) refl q)
+    into (Process r) q = (refl, go (isPresent t (slotAt (w .endpoint) i)) refl q)
       where
-        go : (x : Bool) → eqb (t .0) (slotAt (w .endpoint) i .ticket .0) ≡ x
+        go : (x : Bool) → isPresent t (slotAt (w .endpoint) i) ≡ x
             → _≡_ {A = Event} (number ((if not x then outcome 32 w else completedRow w i r body (r .taking)) .answer)) (number 0) → t .0 ≡ slotAt (w .endpoint) i .ticket .0
         go true f _ = eqb-true (t .0) (slotAt (w .endpoint) i .ticket .0) f
         go false f z = refused 31 z

@@ -42,6 +42,10 @@ Within most i cut = Unit {0}
 Within most i (delivered h) = (h .counted ≤ most) × (h .log i .payloads ≡ h .log i .response)
 Within most i (open! h) = h .counted < most
 
+-- the counted polls that are enough for a slot with k packets left
+abbrev pub pollsFor : ℕ → ℕ
+pollsFor k = 2 * (66 + k)
+
 -- DEMAND 3. Any EID given to setup, any bytes in two stores of 4,224, any list of calls `xs`, any later list `ys`, either slot. Where the slot
 -- is in Transmit after xs with k packets left, k is 1 to 66; and along ys, unless an Abort acts on the slot or a reset comes first, its last
 -- packet is handed out by the time 2 x (66 + k) more polls were counted, and then its payloads joined are exactly the response for its ticket.
@@ -51,8 +55,15 @@ Demand3 =
     → isTransmit (phaseAt (run xs (start eid store0 store1) .world) i) ≡ true
     → (1 ≤ packetsLeft i (run xs (start eid store0 store1)))
     × (packetsLeft i (run xs (start eid store0 store1)) ≤ 66)
-    × Within (run xs (start eid store0 store1) .counted + 2 * (66 + packetsLeft i (run xs (start eid store0 store1)))) i
+    × Within (run xs (start eid store0 store1) .counted + pollsFor (packetsLeft i (run xs (start eid store0 store1)))) i
       (fate i ys (run xs (start eid store0 store1)))
+
+-- what people quote: 264 polls at most, whatever is left
+abbrev pub AtMost264 : Type 0
+AtMost264 =
+    (eid : ℕ) (store0 store1 : List ℕ) → length store0 ≡ store-size → length store1 ≡ store-size → (xs ys : List Call) (i : ℕ) → i ≤ 1
+    → isTransmit (phaseAt (run xs (start eid store0 store1) .world) i) ≡ true
+    → Within (run xs (start eid store0 store1) .counted + 264) i (fate i ys (run xs (start eid store0 store1)))
 
 -- ---- DEMAND 2, the ticket rule
 

@@ -19,14 +19,14 @@ use Rattle.machine.specs.Calls.{Call, receive, take!, complete, poll, Ev
 -- ---- packets, from EID 9 to EID 8
 
 -- byte 3 of a packet, then its payload
-abbrev packet : ℕ → List ℕ → Call
+abbrev pub packet : ℕ → List ℕ → Call
 packet byte3 payload = receive (1 ∷ 8 ∷ 9 ∷ byte3 ∷ payload)
 
 -- a command in one packet under tag 1 (SOM, EOM, sequence 0, TO): its byte 1, its length, its check
-abbrev command : ℕ → ℕ → List ℕ → Call
+abbrev pub command : ℕ → ℕ → List ℕ → Call
 command byte1 n check = packet 0xC9 (0x84 ∷ byte1 ∷ 0 ∷ 0 ∷ (replicate (n - 8) 0 ++ check))
 
-abbrev mi-20 : Call
+abbrev pub mi-20 : Call
 mi-20 = command 0x08 20 (0xE2 ∷ 0x00 ∷ 0x06 ∷ 0x07 ∷ [])
 
 abbrev mi-19 : Call
@@ -46,16 +46,16 @@ abbrev second-with-3 : Call
 second-with-3 = packet 0x79 (0xA6 ∷ [])
 
 -- a control primitive under tag 2, for slot 0, with TAG 5Ah and CPSP 0: its byte 2, its opcode, its check
-abbrev control : ℕ → ℕ → List ℕ → Call
+abbrev pub control : ℕ → ℕ → List ℕ → Call
 control byte2 opcode check = packet 0xCA (0x84 ∷ 0 ∷ byte2 ∷ 0 ∷ opcode ∷ 0x5A ∷ 0 ∷ 0 ∷ check)
 
-abbrev pause : Call
+abbrev pub pause : Call
 pause = control 0 0 (0x18 ∷ 0x37 ∷ 0xCD ∷ 0x59 ∷ [])
 
-abbrev abort : Call
+abbrev pub abort : Call
 abort = control 0 2 (0x99 ∷ 0x14 ∷ 0xAA ∷ 0xE6 ∷ [])
 
-abbrev get-state : Call
+abbrev pub get-state : Call
 get-state = control 0 3 (0x21 ∷ 0xBE ∷ 0xEF ∷ 0x3B ∷ [])
 
 abbrev pause-meb-ciap : Call
@@ -63,14 +63,14 @@ pause-meb-ciap = control 3 0 (0xC2 ∷ 0xFC ∷ 0x71 ∷ 0x6D ∷ [])
 
 -- ---- the other calls
 
-abbrev taking : Call
+abbrev pub taking : Call
 taking = take! 0
 
 -- slot 0, its first ticket, a body of n zeros
-abbrev completing : ℕ → Call
+abbrev pub completing : ℕ → Call
 completing n = complete 0 (ticket 1) (replicate n 0)
 
-abbrev polling : Call
+abbrev pub polling : Call
 polling = poll (replicate packet-room 0)
 
 -- ---- what is looked at

@@ -17,6 +17,7 @@ use Rattle.machine.specs.declared.Taking.the-variants.{Untaken, Taken}
 use Rattle.machine.specs.declared.Request.{Request}
 use Rattle.machine.specs.declared.Phase.{Phase}
 use Rattle.machine.specs.declared.Phase.the-variants.{Idle, Receive, Process, Answered, Transmit}
+use Rattle.machine.specs.declared.Slot.{Slot}
 use Rattle.machine.specs.declared.Endpoint.{Endpoint}
 use Rattle.machine.specs.declared.Done.{Done}
 use Rattle.machine.specs.declared.TakeAnswer.{TakeAnswer}
@@ -80,6 +81,10 @@ part w i =
 abbrev pub isBody : List ℕ → Bool
 isBody body = not (ltb (length body) 4 || ltb 4216 (length body))
 
+-- the ticket is the slot's present one
+abbrev pub isPresent : Ticket → Slot → Bool
+isPresent t s = eqb (t .0) (s .ticket .0)
+
 abbrev pub completedRow : World → ℕ → Request → List ℕ → Taking → Outcome
 completedRow w i r body Untaken = outcome not-taken w
 completedRow w i r body Taken =
@@ -90,7 +95,7 @@ abbrev pub completedIn : World → ℕ → Ticket → List ℕ → Phase → Out
 completedIn w i t body Idle = outcome no-command w
 completedIn w i t body (Receive a) = outcome no-command w
 completedIn w i t body (Process r) =
-    if not (eqb (t .0) (slotAt (w .endpoint) i .ticket .0)) then outcome other-ticket w
+    if not (isPresent t (slotAt (w .endpoint) i)) then outcome other-ticket w
     else completedRow w i r body (r .taking)
 completedIn w i t body (Answered r) = outcome no-command w
 completedIn w i t body (Transmit r) = outcome no-command w

@@ -11,3 +11,5 @@ pub mod Calls
 pub mod Examples
 pub mod History
 pub mod Demands
+pub mod Refusals
+pub mod Runs

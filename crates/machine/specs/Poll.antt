@@ -45,12 +45,16 @@ sendingOr i (Process r) other = other
 sendingOr i (Answered r) other = other
 sendingOr i (Transmit r) other = From i r
 
+-- a packet of it went
+abbrev pub hasBegun : Response → Bool
+hasBegun r = ltb 0 (r .sent)
+
 abbrev pub begunOr : ℕ → Phase → Ready → Ready
 begunOr i Idle other = other
 begunOr i (Receive a) other = other
 begunOr i (Process r) other = other
 begunOr i (Answered r) other = other
-begunOr i (Transmit r) other = if ltb 0 (r .sent) then From i r else other
+begunOr i (Transmit r) other = if hasBegun r then From i r else other
 
 abbrev pub otherSlot : ℕ → ℕ
 otherSlot i = if eqb i 0 then 1 else 0
@@ -64,9 +68,12 @@ chosen e =
     (sendingOr (otherSlot (e .turn)) (slotAt e (otherSlot (e .turn)) .phase)
     Nothing)))
 
+abbrev pub anyPaused : Endpoint → Bool
+anyPaused e = slotAt e 0 .paused || slotAt e 1 .paused
+
 unfoldable pub ready : Endpoint → Ready
 unfolding chosen
-ready e = if slotAt e 0 .paused || slotAt e 1 .paused then Nothing else chosen e
+ready e = if anyPaused e then Nothing else chosen e
 
 -- ---- what goes
 
@@ -105,6 +112,10 @@ sentCommand w i r buffer =
     (packetSent (withSlot (w .endpoint) i (afterPacket (slotAt (w .endpoint) i) r)) (otherSlot i))
     buffer
 
+-- a control reply waits, and the last packet handed out was not control
+abbrev pub replyFirst : Endpoint → Bool
+replyFirst e = e .«reply_waits» && not (e .«last_control»)
+
 -- "If a control reply waits and either the last packet handed out was not control or no command packet is ready, it goes. Otherwise a
 -- ready command packet goes, else answer 0."
 abbrev pub polledBy : World → List ℕ → Ready → Polled
@@ -112,7 +123,7 @@ polledBy w buffer Nothing =
     if w .endpoint .«reply_waits» then sentControl (w .endpoint) buffer
     else polledTo Silent (w .endpoint) buffer
 polledBy w buffer (From i r) =
-    if w .endpoint .«reply_waits» && not (w .endpoint .«last_control») then sentControl (w .endpoint) buffer
+    if replyFirst (w .endpoint) then sentControl (w .endpoint) buffer
     else sentCommand w i r buffer
 
 unfoldable pub polled : World → List ℕ → Polled

@@ -12,6 +12,7 @@ use Rattle.nvme_mi.specs.declared.MessageHeader.{MessageHeader}
 use Rattle.nvme_mi.specs.declared.Fault.{Fault}
 use Rattle.nvme_mi.specs.declared.Fault.the-variants.{NoFault, Parameter, Failure}
 use Rattle.machine.specs.State.{World, slotAt, storeAt, withSlot, withStore, withEndpoint, onSlot, withPhase, slot, nextTicket, settled}
+use Rattle.machine.specs.Wire.{response-place}
 use Rattle.machine.specs.Control.{pause}
 use Rattle.machine.specs.declared.Assembly.{Assembly}
 use Rattle.machine.specs.declared.Taking.the-variants.{Untaken}
@@ -36,7 +37,7 @@ responseTo r body = record { requester = r .source; tag = r .tag; length = lengt
 -- The response overwrites the front of the slot's store. The CSI that chose the slot is its number.
 unfoldable pub responded : World → ℕ → Request → List ℕ → World
 responded w i r body =
-    onSlot (withStore w i (put (storeAt w i) 0 (response (r .kind) i body))) i
+    onSlot (withStore w i (put (storeAt w i) response-place (response (r .kind) i body))) i
     (withPhase (slotAt (w .endpoint) i) (settled (slotAt (w .endpoint) i .paused) (responseTo r body)))
 
 -- "Next, the first that applies becomes the response at once"

@@ -19,6 +19,10 @@ unit = 64
 abbrev pub store-size : ℕ
 store-size = 4224
 
+-- where a response lies in its slot's store: at the front, over the request
+abbrev pub response-place : ℕ
+response-place = 0
+
 -- the shortest message
 abbrev pub smallest : ℕ
 smallest = 8

@@ -1,0 +1,341 @@
+-- What a refusal leaves, for each number.
+-- Assumes nothing.
+use Prim.Native.Nat.{ℕ, zero, suc, _+_, _≤_, _<_}
+use mathlib.Core.Path.{_≡_, refl, sym, ap, _∙_}
+use mathlib.Core.Bool.{Bool, true, false, not, _&&_, _||_}
+use mathlib.Core.List.{List, [], _∷_}
+use native.Mathlib.Omega.{arith}
+use lib.Dec.{eqb, ltb}
+use lib.ListN.{length}
+use borrow.Author.Tests.{eq-eqb, ne-eqb, eqb-false, ltb-true}
+use Rattle.lent.specs.Choice.{if_then_else_}
+use Rattle.lent.proofs.Choice.{if-ind}
+use Rattle.mctp.specs.Header.{fields}
+use Rattle.machine.specs.State.{World, Outcome, outcome, slotAt, withEndpoint}
+use Rattle.machine.specs.Wire.{packet-room, wrongStores}
+use Rattle.machine.specs.Receive.{refused, refusedBusy, dropped, flagOf, endAssembly, received}
+use Rattle.machine.specs.Finish.{isSlot, takenRow, takenFrom, taken, isBody, isPresent, completedRow, completedIn, completed, isReceive, timedOut}
+use Rattle.machine.specs.Poll.{Polled, ready, replyFirst, polledBy, polled, sentControl, sentCommand}
+use Rattle.machine.specs.Valid.{Valid, Sound}
+use Rattle.machine.specs.Calls.{Call, receive, take!, read, complete, poll, timeout, reset, Event, number, given, part-read, handed-out, takeEvent, pollEvent, step}
+use Rattle.machine.specs.History.{hasSom}
+use Rattle.machine.specs.Refusals.{flagged, FlagColumn, begun, Leaves, unread, tabled, busy, unknown, sequence, size, total, failed, RefusedPacket, isLent, WrongStores, RefusedCall, isOneOf, Named}
+use Rattle.machine.specs.declared.Ticket.{Ticket}
+use Rattle.machine.specs.declared.Taking.{Taking}
+use Rattle.machine.specs.declared.Taking.the-variants.{Untaken, Taken}
+use Rattle.machine.specs.declared.Request.{Request}
+use Rattle.machine.specs.declared.Phase.{Phase}
+use Rattle.machine.specs.declared.Phase.the-variants.{Idle, Receive, Process, Answered, Transmit}
+use Rattle.machine.specs.declared.Endpoint.{Endpoint}
+use Rattle.machine.specs.declared.Done.{Done}
+use Rattle.machine.specs.declared.TakeDone.{TakeDone}
+use Rattle.machine.specs.declared.Ready.{Ready}
+use Rattle.machine.specs.declared.Ready.the-variants.{Nothing, From}
+use Rattle.machine.proofs.Slots.{false-true, and-both}
+use Rattle.machine.proofs.Receiving.{Joining, filled, Ground, in-table, of-no-slot, Break, in-sequence, in-size, in-total, Walk, walked}
+use Rattle.machine.proofs.Keeps.{sound-endpoint, sound-of, end-valid}
+
+pub flag-column : FlagColumn
+unfolding flagOf
+flag-column = refl
+
+-- ---- receiving
+
+module _ (w₀ : World) (p : List ℕ) (s₀ : Sound w₀) where
+  -- on the way nothing changes but that an assembly ends
+  record At (w : World) : Type 0 where
+    is : w ≡ begun w₀ p
+    sound : Sound w
+
+  abbrev Left : Outcome → Type 0
+  Left o = 3 ≤ o .answer → Leaves w₀ p (o .answer) (o .world)
+
+  without : hasSom p ≡ false → begun w₀ p ≡ w₀
+  without som = rw som refl
+
+  refuses : (w : World) (n : ℕ) → Ground w₀ p n → At w → Left (refused w n)
+  unfolding refused
+  refuses w n (in-table som lo hi) a _ = rw (a .is) (tabled som lo hi)
+  refuses w _ (of-no-slot som) a _ = rw (a .is ∙ without som) (unknown som)
+
+  drops : (w : World) (i n : ℕ) → Break w₀ p n → i ≤ 1 → At w → Left (refused (dropped w i) n)
+  unfolding refused
+  drops w i _ (in-sequence som) is a _ = rw (a .is ∙ without som) (sequence som i is)
+  drops w i _ (in-size som) is a _ = rw (a .is ∙ without som) (size som i is)
+  drops w i _ (in-total som) is a _ = rw (a .is ∙ without som) (total som i is)
+
+  the-walk : Walk w₀ p At Left
+  unfolding refused refusedBusy
+  the-walk =
+      record {
+        sound = λ w a. a .sound;
+        unread = λ n lo hi _. unfold refused in (unread lo hi);
+        refusing = refuses;
+        busying = λ w i is a _. unfold refusedBusy in (rw (a .is) (busy i is));
+        dropping = λ w i n k is _ a. drops w i n k is a;
+        failing = λ w i at j a _. unfold refused in (rw (a .is) (failed i at (j .slot-is)));
+        gaining = λ w i at j _ a h. absurd (omega arith);
+        entering = λ w i at j _ a h. absurd (omega arith);
+        controlling = λ w c a h. absurd (omega arith);
+      }
+
+pub refused-packet : RefusedPacket
+refused-packet w p s h =
+    walked w p (At w p s) (Left w p s) (the-walk w p s) s (λ som. record { is = rw som refl; sound = s })
+    (λ som. record { is = rw som refl; sound = sound-endpoint s (end-valid (fields p .source) (fields p .tag) (s .state)) }) h
+
+-- ---- 40
+
+pub wrong-stores-unchanged : WrongStores
+unfolding step received completed polled
+wrong-stores-unchanged (receive p) w l e = rw e (refl, refl)
+wrong-stores-unchanged (take! i) w l e = false-true l
+wrong-stores-unchanged (read i) w l e = false-true l
+wrong-stores-unchanged (complete i t body) w l e = rw e (refl, refl)
+wrong-stores-unchanged (poll buffer) w l e = rw e (refl, refl)
+wrong-stores-unchanged (timeout i) w l e = false-true l
+wrong-stores-unchanged reset w l e = false-true l
+
+-- ---- 30 to 38
+
+same-number : {m n : ℕ} → number m ≡ number n → m ≡ n
+same-number e = cc
+
+given-number : {A : Type 0} {t : Ticket} {n : ℕ} → given t ≡ number n → A
+given-number {t = t} {n = n} e = absurd (omega (arith, zero-one e))
+  where
+    zero-one : given t ≡ number n → _≡_ {A = ℕ} 0 1
+    zero-one q = cc
+
+out-number : {A : Type 0} {s : List ℕ} {n : ℕ} → handed-out s ≡ number n → A
+out-number {s = s} {n = n} e = absurd (omega (arith, zero-one e))
+  where
+    zero-one : handed-out s ≡ number n → _≡_ {A = ℕ} 0 1
+    zero-one q = cc
+
+take-unchanged : (e : Endpoint) (i n : ℕ) → takeEvent (taken e i .answer) ≡ number n → taken e i .endpoint ≡ e
+unfolding taken
+take-unchanged e i n = if-ind Left? (not (isSlot i)) (λ _ _. refl) (λ _. from (slotAt e i .phase))
+  where
+    Left? : TakeDone → Type 0
+    Left? d = takeEvent (d .answer) ≡ number n → d .endpoint ≡ e
+    row : (r : Request) (t : Taking) → Left? (takenRow e i r t)
+    row r Untaken q = given-number q
+    row r Taken q = refl
+    from : (p : Phase) → Left? (takenFrom e i p)
+    from Idle q = refl
+    from (Receive a) q = refl
+    from (Process r) q = row r (r .taking) q
+    from (Answered r) q = refl
+    from (Transmit r) q = refl
+
+complete-unchanged : (w : World) (i : ℕ) (t : Ticket) (body : List ℕ) → 30 ≤ completed w i t body .answer → completed w i t body .world ≡ w
+unfolding completed
+complete-unchanged w i t body =
+    if-ind Left? (wrongStores w) (λ _ _. refl) (λ _. if-ind Left? (not (isSlot i)) (λ _ _. refl) (λ _. into (slotAt (w .endpoint) i .phase)))
+  where
+    Left? : Outcome → Type 0
+    Left? o = 30 ≤ o .answer → o .world ≡ w
+    row : (r : Request) (u : Taking) → Left? (completedRow w i r body u)
+    row r Untaken = λ _. refl
+    row r Taken = if-ind Left? (not (isBody body)) (λ _ _. refl) (λ _ h. absurd (omega arith))
+    into : (p : Phase) → Left? (completedIn w i t body p)
+    into Idle = λ _. refl
+    into (Receive a) = λ _. refl
+    into (Process r) = if-ind Left? (not (isPresent t (slotAt (w .endpoint) i))) (λ _ _. refl) (λ _. row r (r .taking))
+    into (Answered r) = λ _. refl
+    into (Transmit r) = λ _. refl
+
+timeout-unchanged : (e : Endpoint) (i : ℕ) → 30 ≤ timedOut e i .answer → timedOut e i .endpoint ≡ e
+unfolding timedOut
+timeout-unchanged e i =
+    if-ind Left? (not (isSlot i)) (λ _ _. refl)
+    (λ _. if-ind Left? (not (isReceive (slotAt e i .phase)) || slotAt e i .paused) (λ _ _. refl) (λ _ h. absurd (omega arith)))
+  where
+    Left? : Done → Type 0
+    Left? d = 30 ≤ d .answer → d .endpoint ≡ e
+
+poll-unchanged : (w : World) (buffer : List ℕ) (n : ℕ) → pollEvent (polled w buffer .buffer) (polled w buffer .answer) ≡ number n → polled w buffer .endpoint ≡ w .endpoint
+unfolding polled
+poll-unchanged w buffer n =
+    if-ind Left? (wrongStores w) (λ _ _. refl) (λ _. if-ind Left? (ltb (length buffer) packet-room) (λ _ _. refl) (λ _. by (ready (w .endpoint))))
+  where
+    Left? : Polled → Type 0
+    Left? p = pollEvent (p .buffer) (p .answer) ≡ number n → p .endpoint ≡ w .endpoint
+    by : (x : Ready) → Left? (polledBy w buffer x)
+    by Nothing = if-ind Left? (w .endpoint .«reply_waits») (λ _ q. out-number q) (λ _ _. refl)
+    by (From i r) = if-ind Left? (replyFirst (w .endpoint)) (λ _ q. out-number q) (λ _ q. out-number q)
+
+-- ---- the numbers
+
+abbrev In : List ℕ → ℕ → Type 0
+In ks n = isOneOf n ks ≡ true
+
+-- receiving: the walk's numbers
+abbrev receiving : List ℕ
+receiving = 0 ∷ 1 ∷ 2 ∷ 10 ∷ 11 ∷ 12 ∷ 13 ∷ 14 ∷ 15 ∷ 16 ∷ 17 ∷ 18 ∷ 19 ∷ 20 ∷ 21 ∷ 22 ∷ 23 ∷ 40 ∷ []
+
+found : (k : ℕ) (ks : List ℕ) (n : ℕ) → n ≡ k → In (k ∷ ks) n
+found k ks n e = rw (eq-eqb n k e) refl
+
+further : (k : ℕ) (ks : List ℕ) (n : ℕ) → In ks n → In (k ∷ ks) n
+further k ks n h = go (eqb n k)
+  where
+    go : (b : Bool) → (b || isOneOf n ks) ≡ true
+    go true = refl
+    go false = h
+
+-- a number between two is one of those listed, one after the other
+abbrev upFrom : ℕ → ℕ → List ℕ → List ℕ
+upFrom a zero ks = ks
+upFrom a (suc d) ks = a ∷ upFrom (suc a) d ks
+
+in-range : (a d : ℕ) (ks : List ℕ) (n : ℕ) → a ≤ n → n < a + d → In (upFrom a d ks) n
+in-range a zero ks n lo hi = absurd (omega arith)
+in-range a (suc d) ks n lo hi = go (λ more. in-range (suc a) d ks n more (omega arith)) (eqb n a) refl
+  where
+    go : (suc a ≤ n → In (upFrom (suc a) d ks) n) → (b : Bool) → eqb n a ≡ b → In (a ∷ upFrom (suc a) d ks) n
+    go rest true e = rw e refl
+    go rest false e = further a (upFrom (suc a) d ks) n (rest (omega (arith, eqb-false n a e)))
+
+refusal-named : (n : ℕ) → 10 ≤ n → n ≤ 23 → In receiving n
+refusal-named n lo hi =
+    let ks = upFrom 10 14 (40 ∷ []) in
+    further 0 (1 ∷ 2 ∷ ks) n (further 1 (2 ∷ ks) n (further 2 ks n (in-range 10 14 (40 ∷ []) n lo (omega arith))))
+
+module _ (w₀ : World) (p : List ℕ) (s₀ : Sound w₀) where
+  abbrev Said : Outcome → Type 0
+  Said o = In receiving (o .answer)
+
+  ground-named : (n : ℕ) → Ground w₀ p n → In receiving n
+  ground-named n (in-table _ lo hi) = refusal-named n (omega arith) (omega arith)
+  ground-named _ (of-no-slot _) = refl
+
+  break-named : (n : ℕ) → Break w₀ p n → In receiving n
+  break-named _ (in-sequence _) = refl
+  break-named _ (in-size _) = refl
+  break-named _ (in-total _) = refl
+
+  said-walk : Walk w₀ p Sound Said
+  said-walk =
+      record {
+        sound = λ w s. s;
+        unread = λ n lo hi. unfold refused in (refusal-named n (omega arith) (omega arith));
+        refusing = λ w n k _. unfold refused in (ground-named n k);
+        busying = λ w i is _. unfold refusedBusy in refl;
+        dropping = λ w i n k is _ _. unfold refused in (break-named n k);
+        failing = λ w i at j _. unfold refused in refl;
+        gaining = λ w i at j _ _. refl;
+        entering = λ w i at j _ _. refl;
+        controlling = λ w c _. refl;
+      }
+
+receive-named : (w : World) (p : List ℕ) → Valid (w .endpoint) → In receiving (received w p .answer)
+receive-named w p v = go (wrongStores w) refl
+  where
+    go : (b : Bool) → wrongStores w ≡ b → In receiving (received w p .answer)
+    go true e = unfold received in (rw e refl)
+    go false e =
+        let s = sound-of w e v in
+        walked w p Sound (Said w p s) (said-walk w p s) s (λ _. s) (λ _. sound-endpoint s (end-valid (fields p .source) (fields p .tag) v))
+
+take-named : (e : Endpoint) (i n : ℕ) → takeEvent (taken e i .answer) ≡ number n → In (30 ∷ 31 ∷ 33 ∷ []) n
+unfolding taken
+take-named e i n = if-ind Says (not (isSlot i)) (λ _ q. listed 30 q refl) (λ _. from (slotAt e i .phase))
+  where
+    Says : TakeDone → Type 0
+    Says d = takeEvent (d .answer) ≡ number n → In (30 ∷ 31 ∷ 33 ∷ []) n
+    listed : (k : ℕ) → number k ≡ number n → In (30 ∷ 31 ∷ 33 ∷ []) k → In (30 ∷ 31 ∷ 33 ∷ []) n
+    listed k q h = rw (sym (same-number q)) h
+    row : (r : Request) (t : Taking) → Says (takenRow e i r t)
+    row r Untaken = λ q. given-number q
+    row r Taken = λ q. listed 33 q refl
+    from : (p : Phase) → Says (takenFrom e i p)
+    from Idle = λ q. listed 31 q refl
+    from (Receive a) = λ q. listed 31 q refl
+    from (Process r) = row r (r .taking)
+    from (Answered r) = λ q. listed 31 q refl
+    from (Transmit r) = λ q. listed 31 q refl
+
+abbrev completing : List ℕ
+completing = 0 ∷ 30 ∷ 31 ∷ 32 ∷ 34 ∷ 35 ∷ 40 ∷ []
+
+complete-named : (w : World) (i : ℕ) (t : Ticket) (body : List ℕ) → In completing (completed w i t body .answer)
+unfolding completed
+complete-named w i t body = if-ind Says (wrongStores w) (λ _. refl) (λ _. if-ind Says (not (isSlot i)) (λ _. refl) (λ _. into (slotAt (w .endpoint) i .phase)))
+  where
+    Says : Outcome → Type 0
+    Says o = In completing (o .answer)
+    row : (r : Request) (u : Taking) → Says (completedRow w i r body u)
+    row r Untaken = refl
+    row r Taken = if-ind Says (not (isBody body)) (λ _. refl) (λ _. refl)
+    into : (p : Phase) → Says (completedIn w i t body p)
+    into Idle = refl
+    into (Receive a) = refl
+    into (Process r) = if-ind Says (not (isPresent t (slotAt (w .endpoint) i))) (λ _. refl) (λ _. row r (r .taking))
+    into (Answered r) = refl
+    into (Transmit r) = refl
+
+timeout-named : (e : Endpoint) (i : ℕ) → In (0 ∷ 30 ∷ 37 ∷ []) (timedOut e i .answer)
+unfolding timedOut
+timeout-named e i =
+    if-ind Says (not (isSlot i)) (λ _. refl) (λ _. if-ind Says (not (isReceive (slotAt e i .phase)) || slotAt e i .paused) (λ _. refl) (λ _. refl))
+  where
+    Says : Done → Type 0
+    Says d = In (0 ∷ 30 ∷ 37 ∷ []) (d .answer)
+
+poll-named : (w : World) (buffer : List ℕ) (n : ℕ) → pollEvent (polled w buffer .buffer) (polled w buffer .answer) ≡ number n → In (0 ∷ 36 ∷ 40 ∷ []) n
+unfolding polled
+poll-named w buffer n =
+    if-ind Says (wrongStores w) (λ _ q. listed 40 q refl) (λ _. if-ind Says (ltb (length buffer) packet-room) (λ _ q. listed 36 q refl) (λ _. by (ready (w .endpoint))))
+  where
+    Says : Polled → Type 0
+    Says p = pollEvent (p .buffer) (p .answer) ≡ number n → In (0 ∷ 36 ∷ 40 ∷ []) n
+    listed : (k : ℕ) → number k ≡ number n → In (0 ∷ 36 ∷ 40 ∷ []) k → In (0 ∷ 36 ∷ 40 ∷ []) n
+    listed k q h = rw (sym (same-number q)) h
+    by : (x : Ready) → Says (polledBy w buffer x)
+    by Nothing = if-ind Says (w .endpoint .«reply_waits») (λ _ q. out-number q) (λ _ q. listed 0 q refl)
+    by (From i r) = if-ind Says (replyFirst (w .endpoint)) (λ _ q. out-number q) (λ _ q. out-number q)
+
+pub named : Named
+unfolding step
+named (receive p) w n v e = rw (sym (same-number e)) (receive-named w p v)
+named (take! i) w n v e = take-named (w .endpoint) i n e
+named (read i) w n v e = absurd (omega (arith, part-number e))
+  where
+    part-number : {s : List ℕ} → part-read s ≡ number n → _≡_ {A = ℕ} 0 1
+    part-number q = cc
+named (complete i t body) w n v e = rw (sym (same-number e)) (complete-named w i t body)
+named (poll buffer) w n v e = poll-named w buffer n e
+named (timeout i) w n v e = rw (sym (same-number e)) (timeout-named (w .endpoint) i)
+named reset w n v e = rw (sym (same-number e)) refl
+
+-- ---- 30 to 38
+
+-- receiving and reset answer none of them
+not-received : (n : ℕ) → In receiving n → 30 ≤ n → n ≤ 38 → ⊥
+not-received n h lo hi = false-true (sym (absent receiving refl) ∙ h)
+  where
+    outside : List ℕ → Bool
+    outside [] = true
+    outside (k ∷ ks) = (ltb k 30 || ltb 38 k) && outside ks
+    absent : (ks : List ℕ) → outside ks ≡ true → isOneOf n ks ≡ false
+    absent [] q = refl
+    absent (k ∷ ks) q =
+        let a = and-both (ltb k 30 || ltb 38 k) (outside ks) q in
+        rw (ne-eqb n k (λ e. away k e (ltb k 30) (ltb 38 k) refl refl (a .0))) (absent ks (a .1))
+      where
+        away : (k : ℕ) → n ≡ k → (x y : Bool) → ltb k 30 ≡ x → ltb 38 k ≡ y → (x || y) ≡ true → ⊥
+        away k e true y p r z = omega (arith, ltb-true k 30 p)
+        away k e false true p r z = omega (arith, ltb-true 38 k r)
+        away k e false false p r z = false-true z
+
+pub refused-call : RefusedCall
+unfolding step
+refused-call (receive p) w n v e lo hi = absurd (not-received n (named (receive p) w n v (unfold step in e)) lo hi)
+refused-call (take! i) w n v e lo hi = ap (withEndpoint w) (take-unchanged (w .endpoint) i n e)
+refused-call (read i) w n v e lo hi = refl
+refused-call (complete i t body) w n v e lo hi = complete-unchanged w i t body (rw (same-number e) lo)
+refused-call (poll buffer) w n v e lo hi = ap (withEndpoint w) (poll-unchanged w buffer n e)
+refused-call (timeout i) w n v e lo hi = ap (withEndpoint w) (timeout-unchanged (w .endpoint) i (rw (same-number e) lo))
+refused-call reset w n v e lo hi = absurd (omega (arith, same-number e))

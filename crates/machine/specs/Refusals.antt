@@ -1,0 +1,95 @@
+-- What a refusal leaves, for each number. "A refusal changes nothing but what is said here"; "Refusals 30 to 38 change nothing."
+-- Last, the numbers that each call can answer. The proofs: `refused-packet`, `flag-column`, `wrong-stores-unchanged`, `refused-call` and `named`
+-- (proofs/Refusals).
+-- Assumes nothing.
+use Prim.Native.Nat.{ℕ, _^_, _≤_}
+use mathlib.Core.Path.{_≡_}
+use mathlib.Core.Bool.{Bool, true, false, _||_}
+use mathlib.Core.List.{List, [], _∷_, map}
+use lib.Bits.{bitOr}
+use lib.Dec.{eqb}
+use Rattle.lent.specs.Choice.{if_then_else_}
+use Rattle.lent.specs.Bytes.{put}
+use Rattle.machine.specs.State.{World, slotAt, storeAt, withEndpoint, withStore, withFlags, onSlot, withBusy, idled}
+use Rattle.machine.specs.Wire.{wrongStores}
+use Rattle.machine.specs.Receive.{endAssembly, flagOf, received}
+use Rattle.machine.specs.Calls.{Call, receive, take!, read, complete, poll, timeout, reset, Event, number, step}
+use Rattle.machine.specs.Valid.{Valid, Sound}
+use Rattle.machine.specs.History.{hasSom, sourceOf, messageTagOf, bytesFrom4}
+
+-- ---- receiving
+
+-- the flag of a refusal is set
+abbrev pub flagged : World → ℕ → World
+flagged w n = withEndpoint w (withFlags (w .endpoint) (bitOr (w .endpoint .flags) (flagOf n)))
+
+-- which is, for 10 to 23: none, bits 6, 7, 8, 12, none, 9, none, none, 4, (20: the slot's own), 10, 11, none
+abbrev pub FlagColumn : Type 0
+FlagColumn =
+    map flagOf (10 ∷ 11 ∷ 12 ∷ 13 ∷ 14 ∷ 15 ∷ 16 ∷ 17 ∷ 18 ∷ 19 ∷ 20 ∷ 21 ∷ 22 ∷ 23 ∷ [])
+    ≡ 0 ∷ 2 ^ 6 ∷ 2 ^ 7 ∷ 2 ^ 8 ∷ 2 ^ 12 ∷ 0 ∷ 2 ^ 9 ∷ 0 ∷ 0 ∷ 2 ^ 4 ∷ 0 ∷ 2 ^ 10 ∷ 2 ^ 11 ∷ 0 ∷ []
+
+-- a packet with SOM 1 that is read: an assembly with its source and tag has ended
+abbrev pub begun : World → List ℕ → World
+begun w p = if hasSom p then withEndpoint w (endAssembly (w .endpoint) (sourceOf p) (messageTagOf p)) else w
+
+abbrev pub toIdle : World → ℕ → World
+toIdle w i = onSlot w i (idled (slotAt (w .endpoint) i))
+
+pub data Leaves (w : World) (p : List ℕ) : ℕ → World → Type 0 where
+  -- 10 to 14: the flag
+  unread : {n : ℕ} → 10 ≤ n → n ≤ 14 → Leaves w p n (flagged w n)
+  -- SOM 1, 15 to 19: an assembly with its source and tag has ended, and the flag
+  tabled : {n : ℕ} → hasSom p ≡ true → 15 ≤ n → n ≤ 19 → Leaves w p n (flagged (begun w p) n)
+  -- 20: the same, and the slot's own bit 3
+  busy : (i : ℕ) → i ≤ 1 → Leaves w p 20 (onSlot (begun w p) i (withBusy (slotAt (begun w p .endpoint) i) true))
+  -- SOM 0, 21: the flag
+  unknown : hasSom p ≡ false → Leaves w p 21 (flagged w 21)
+  -- 22, 16, 23: the slot goes to Idle, and the flag
+  sequence : hasSom p ≡ false → (i : ℕ) → i ≤ 1 → Leaves w p 22 (flagged (toIdle w i) 22)
+  size : hasSom p ≡ false → (i : ℕ) → i ≤ 1 → Leaves w p 16 (flagged (toIdle w i) 16)
+  total : hasSom p ≡ false → (i : ℕ) → i ≤ 1 → Leaves w p 23 (flagged (toIdle w i) 23)
+  -- 19 of a command: its payload is stored, the slot goes to Idle, and the flag
+  failed : (i at : ℕ) → i ≤ 1 → Leaves w p 19 (flagged (toIdle (withStore (begun w p) i (put (storeAt (begun w p) i) at (bytesFrom4 p))) i) 19)
+
+-- any packet, in any sound state: what is answered from 3 on is a refusal, and it leaves what is said of its number
+abbrev pub RefusedPacket : Type 0
+RefusedPacket = (w : World) (p : List ℕ) → Sound w → 3 ≤ received w p .answer → Leaves w p (received w p .answer) (received w p .world)
+
+-- ---- 40, 30 to 38
+
+abbrev pub isLent : Call → Bool
+isLent (receive p) = true
+isLent (take! i) = false
+isLent (read i) = false
+isLent (complete i t body) = true
+isLent (poll buffer) = true
+isLent (timeout i) = false
+isLent reset = false
+
+-- stores of another length: 40 before any other test, and nothing changes
+abbrev pub WrongStores : Type 0
+WrongStores = (c : Call) (w : World) → isLent c ≡ true → wrongStores w ≡ true → (step c w .event ≡ number 40) × (step c w .world ≡ w)
+
+-- 30 to 38: nothing changes, whatever stores are lent
+abbrev pub RefusedCall : Type 0
+RefusedCall = (c : Call) (w : World) (n : ℕ) → Valid (w .endpoint) → step c w .event ≡ number n → 30 ≤ n → n ≤ 38 → step c w .world ≡ w
+
+-- ---- "each call ends with an answer named in document 01"
+
+abbrev pub isOneOf : ℕ → List ℕ → Bool
+isOneOf n [] = false
+isOneOf n (k ∷ ks) = eqb n k || isOneOf n ks
+
+abbrev pub answers : Call → List ℕ
+answers (receive p) = 0 ∷ 1 ∷ 2 ∷ 10 ∷ 11 ∷ 12 ∷ 13 ∷ 14 ∷ 15 ∷ 16 ∷ 17 ∷ 18 ∷ 19 ∷ 20 ∷ 21 ∷ 22 ∷ 23 ∷ 40 ∷ []
+answers (take! i) = 30 ∷ 31 ∷ 33 ∷ []
+answers (read i) = []
+answers (complete i t body) = 0 ∷ 30 ∷ 31 ∷ 32 ∷ 34 ∷ 35 ∷ 40 ∷ []
+answers (poll buffer) = 0 ∷ 36 ∷ 40 ∷ []
+answers (timeout i) = 0 ∷ 30 ∷ 37 ∷ []
+answers reset = 0 ∷ []
+
+-- a call that answers by number answers with one of its numbers; else a take gives a ticket, the reading call a part and a poll a packet
+abbrev pub Named : Type 0
+Named = (c : Call) (w : World) (n : ℕ) → Valid (w .endpoint) → step c w .event ≡ number n → isOneOf n (answers c) ≡ true
