@@ -211,10 +211,13 @@ turn-decides e v i is r q t a b c = at (which i (e .turn) is (v .turn-most))
   where
     none : (isBegun (slotAt e 0 .phase) ≡ false) × (isBegun (slotAt e 1 .phase) ≡ false)
     none = both-slots (λ (k : ℕ). isBegun (slotAt e k .phase) ≡ false) i is a b
+
     by-turn : byTurn e ≡ From (otherSlot i) q
     by-turn = sym (begun-or-not 0 (slotAt e 0 .phase) _ (none .0) ∙ begun-or-not 1 (slotAt e 1 .phase) (byTurn e) (none .1)) ∙ c
+
     same-slot : {k m : ℕ} {x y : Response} → From k x ≡ From m y → k ≡ m
     same-slot p = cc
+
     at : Which i (e .turn) → eqb (e .turn) (otherSlot i) ≡ true
     at (this p) =
         let here : byTurn e ≡ From (e .turn) r = sending-or-some (e .turn) (slotAt e (e .turn) .phase) _ r (rw (sym p) at t) in
@@ -379,7 +382,7 @@ module _ (i : ℕ) (is : i ≤ 1) (buffer : List ℕ) (h : History) (g : Good h)
       where
         go : (b : Bool) → isLast q ≡ b
             → (if isBegun ((if b then idled (slotAt e₀ o) else withPhase (slotAt e₀ o) (Transmit (advanced q))) .phase)
-              then leftIn ((if b then idled (slotAt e₀ o) else withPhase (slotAt e₀ o) (Transmit (advanced q))) .phase) else 0) + 1 ≤ leftOf q
+            then leftIn ((if b then idled (slotAt e₀ o) else withPhase (slotAt e₀ o) (Transmit (advanced q))) .phase) else 0) + 1 ≤ leftOf q
         go true e = bounds .0
         go false e = rw (lt-ltb 0 (q .sent + 1) (omega arith)) (omega (arith, bounds .0))
 
@@ -394,8 +397,10 @@ module _ (i : ℕ) (is : i ≤ 1) (buffer : List ℕ) (h : History) (g : Good h)
       own-goes : (b : Bool) → isLast r ≡ b → counts (poll buffer) (h .world) ≡ true → Progress i (poll buffer) h own
       own-goes true e k = own-last e
       own-goes false e k = own-more e k
+
       same-response : {x : Phase} {a b : Response} → x ≡ Transmit a → x ≡ Transmit b → b ≡ a
       same-response p q = cc
+
       -- the packet is slot i's, or the other's
       sent : (k : ℕ) (q : Response) → chosen e₀ ≡ From k q → counts (poll buffer) (h .world) ≡ true → Which i k
           → Progress i (poll buffer) h
@@ -404,6 +409,7 @@ module _ (i : ℕ) (is : i ≤ 1) (buffer : List ℕ) (h : History) (g : Good h)
           let mine : phaseAt (h .world) i ≡ Transmit q = rw e at (chosen-at e₀ v₀ c .sends) in
           rw (e, same-response t mine) (own-goes (isLast r) refl counted)
       sent k q c counted (that e) = rw e (theirs-goes q (rw e at c) counted)
+
       by : {s : Stepped} → PollCase (h .world) buffer s → Progress i (poll buffer) h s
       by (still n k) = nothing-sent n k
       by (replies a k) = control-sent k
@@ -511,10 +517,10 @@ from-here i is h g r t ys =
     let n = left-is i is h g r t in
     let o = otherSlot i in
     let most : ahead i (h .world .endpoint) ≤ 66 =
-          before-most (isBegun (phaseAt (h .world) i)) (isBegun (phaseAt (h .world) o)) (leftIn (phaseAt (h .world) o)) (eqb (h .world .endpoint .turn) o)
-          (left-most (slotAt (h .world .endpoint) o .paused) (phaseAt (h .world) o) (facts-at o (other-most i) v)) in
+    before-most (isBegun (phaseAt (h .world) i)) (isBegun (phaseAt (h .world) o)) (leftIn (phaseAt (h .world) o)) (eqb (h .world .endpoint .turn) o)
+    (left-most (slotAt (h .world .endpoint) o .paused) (phaseAt (h .world) o) (facts-at o (other-most i) v)) in
     let first : oneMore (h .world .endpoint .«last_control») ≤ 1 =
-          if-ind (λ (x : ℕ). x ≤ 1) (h .world .endpoint .«last_control») (λ _. omega arith) (λ _. omega arith) in
+    if-ind (λ (x : ℕ). x ≤ 1) (h .world .endpoint .«last_control») (λ _. omega arith) (λ _. omega arith) in
     (omega (arith, k .0, n), omega (arith, k .1, n), within i (h .counted + pollsFor (packetsLeft i h)) is ys h g r t (omega (arith, most, first, n, ap leftIn t)))
 
 pub demand-3 : Demand3

@@ -40,7 +40,6 @@ use Rattle.machine.proofs.Received.{Carries}
 
 module _ (w₀ : World) (log : ℕ → Log) (s₀ : Sound w₀)
     (fits : (j : ℕ) → j ≤ 1 → Fit (slotAt (w₀ .endpoint) j) (storeAt w₀ j) (log j)) where
-
   -- ---- taking
 
   took : (i : ℕ) → i ≤ 1 → (r : Request) → phaseAt w₀ i ≡ Process r
@@ -49,6 +48,7 @@ module _ (w₀ : World) (log : ℕ → Log) (s₀ : Sound w₀)
     where
       s : Slot
       s = withPhase (slotAt (w₀ .endpoint) i) (Process (takenRequest r))
+
       this-one : Carried (false ≡ true) (slotAt (w₀ .endpoint) i) (withPhase (slotAt (w₀ .endpoint) i) (Process (takenRequest r))) (storeAt w₀ i) (log i)
           (transmitted (phaseAt w₀ i) (Process (takenRequest r)) (number 0) (log i))
       this-one =
@@ -59,6 +59,7 @@ module _ (w₀ : World) (log : ℕ → Log) (s₀ : Sound w₀)
             entry = stayed refl (λ h. (rw p refl, refl));
             steady = worked r p refl;
           })
+
       at : (j : ℕ) → j ≤ 1 → Which i j
           → Carried (false ≡ true) (slotAt (w₀ .endpoint) j) (slotAt (withSlot (w₀ .endpoint) i (withPhase (slotAt (w₀ .endpoint) i) (Process (takenRequest r)))) j) (storeAt w₀ j) (log j)
           (transmitted (phaseAt w₀ j) (slotAt (withSlot (w₀ .endpoint) i (withPhase (slotAt (w₀ .endpoint) i) (Process (takenRequest r)))) j .phase) (number 0) (log j))
@@ -71,11 +72,14 @@ module _ (w₀ : World) (log : ℕ → Log) (s₀ : Sound w₀)
     where
       After : TakeDone → Type 0
       After d = Carries (take! i) w₀ log (byTake w₀ d)
+
       none : {n : ℕ} → Carries (take! i) w₀ log (stepped (number n) w₀)
       none = record { turn-is = refl; last-is = refl; carried = λ j js. carried-same 0 refl refl (fits j js) }
+
       row : i ≤ 1 → (r : Request) (t : Taking) → phaseAt w₀ i ≡ Process r → After (takenRow (w₀ .endpoint) i r t)
       row is r Untaken p = took i is r p
       row is r Taken p = none
+
       from : i ≤ 1 → (p : Phase) → phaseAt w₀ i ≡ p → After (takenFrom (w₀ .endpoint) i p)
       from is Idle p = none
       from is (Receive a) p = none
@@ -96,18 +100,25 @@ module _ (w₀ : World) (log : ℕ → Log) (s₀ : Sound w₀)
     where
       v : Valid (w₀ .endpoint)
       v = s₀ .state
+
       s : Slot
       s = withPhase (slotAt (w₀ .endpoint) i) (settled (slotAt (w₀ .endpoint) i .paused) (responseTo r body))
+
       text : List ℕ
       text = response (r .kind) i body
+
       k : Asked r (storeAt w₀ i) (log i)
       k = rw p at (fits i is .phase-fits)
+
       n : length text ≡ length body + 8
       n = length-response (r .kind) i body
+
       text-is : text ≡ completing i body (log i) .response
       text-is = rw (k .kind-is) (response-is i (log i .request) body is)
+
       lies : take (length body + 8) (put (storeAt w₀ i) response-place text) ≡ text
       lies = rw (sym n) (take-put (storeAt w₀ i) text)
+
       this-one : Carried (false ≡ true) (slotAt (w₀ .endpoint) i) s (put (storeAt w₀ i) response-place text) (log i)
           (transmitted (phaseAt w₀ i) (s .phase) (number 0) (completing i body (log i)))
       this-one =
@@ -115,6 +126,7 @@ module _ (w₀ : World) (log : ℕ → Log) (s₀ : Sound w₀)
           carried-settled (completing i body (log i)) 0 b (responseTo r body) (rw p refl) refl refl
           (record { held = lies ∙ text-is; size = rw (sym text-is) n; to = k .from; under = k .under }) (fits i is .ticket-is)
           (stayed refl (λ h. false-true (sym (settled-process b (responseTo r body)) ∙ h))) (worked r p (settled-begun b (responseTo r body) refl))
+
       at : (j : ℕ) → j ≤ 1 → Which i j
           → Carried (false ≡ true) (slotAt (w₀ .endpoint) j) (slotAt (withSlot (w₀ .endpoint) i s) j) (storeAt (withStore w₀ i (put (storeAt w₀ i) response-place text)) j) (log j)
           (transmitted (phaseAt w₀ j) (slotAt (withSlot (w₀ .endpoint) i s) j .phase) (number 0) (commanded j (complete i t body) w₀ (number 0) (log j)))
@@ -130,11 +142,14 @@ module _ (w₀ : World) (log : ℕ → Log) (s₀ : Sound w₀)
     where
       After : Outcome → Type 0
       After o = Carries (complete i t body) w₀ log (byOutcome o)
+
       none : (n : ℕ) → eqb n 0 ≡ false → Carries (complete i t body) w₀ log (stepped (number n) w₀)
       none n e = record { turn-is = refl; last-is = refl; carried = λ j js. rw e (carried-same 0 refl refl (fits j js)) }
+
       row : i ≤ 1 → (r : Request) (u : Taking) → phaseAt w₀ i ≡ Process r → After (completedRow w₀ i r body u)
       row is r Untaken p = none 34 refl
       row is r Taken p = if-ind After (not (isBody body)) (λ _. none 35 refl) (λ _. finished i t body is r p)
+
       into : i ≤ 1 → (p : Phase) → phaseAt w₀ i ≡ p → After (completedIn w₀ i t body p)
       into is Idle p = none 31 refl
       into is (Receive a) p = none 31 refl
@@ -166,10 +181,13 @@ module _ (w₀ : World) (log : ℕ → Log) (s₀ : Sound w₀)
     where
       After : Done → Type 0
       After d = Carries (timeout i) w₀ log (byDone w₀ d)
+
       none : {n : ℕ} → Carries (timeout i) w₀ log (stepped (number n) w₀)
       none = record { turn-is = refl; last-is = refl; carried = λ j js. carried-same 0 refl refl (fits j js) }
+
       s : Slot
       s = idled (slotAt (w₀ .endpoint) i)
+
       at : i ≤ 1 → isEarly (phaseAt w₀ i) ≡ true → (j : ℕ) → j ≤ 1 → Which i j
           → Carried (false ≡ true) (slotAt (w₀ .endpoint) j) (slotAt (withSlot (w₀ .endpoint) i s) j) (storeAt w₀ j) (log j)
           (transmitted (phaseAt w₀ j) (slotAt (withSlot (w₀ .endpoint) i s) j .phase) (number 0) (log j))

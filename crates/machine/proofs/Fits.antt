@@ -149,10 +149,10 @@ carried-released {C} {s} {t} {store} {l} n r a z e k f =
     rw (quiet-begins (s .phase) (t .phase) n l (rw a refl) (rw e refl))
     (record {
       fit =
-        record {
-          phase-fits = rw e (record { full = record { held = full .held; size = full .size; to = full .to; under = full .under }; paid = rw z refl; count = sym z });
-          ticket-is = rw k (f .ticket-is);
-        };
+          record {
+            phase-fits = rw e (record { full = record { held = full .held; size = full .size; to = full .to; under = full .under }; paid = rw z refl; count = sym z });
+            ticket-is = rw k (f .ticket-is);
+          };
       entry = stayed refl (λ h. false-true (rw e at h));
       steady = released r a e;
     })
@@ -204,10 +204,10 @@ carried-settled {C} {s} {t} {store} {l} m n false r a e z f k y g =
     rw (quiet-begins (s .phase) (t .phase) n m a (rw e refl))
     (record {
       fit =
-        record {
-          phase-fits = rw e (record { full = record { held = f .held; size = f .size; to = f .to; under = f .under }; paid = rw z refl; count = sym z });
-          ticket-is = k;
-        };
+          record {
+            phase-fits = rw e (record { full = record { held = f .held; size = f .size; to = f .to; under = f .under }; paid = rw z refl; count = sym z });
+            ticket-is = k;
+          };
       entry = entry-sending y;
       steady = g;
     })

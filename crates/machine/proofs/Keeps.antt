@@ -387,6 +387,7 @@ sound-walk w₀ packet s₀ =
   where
     refuse : (w : World) (n : ℕ) → Sound w → After (refused w n)
     refuse w n s = unfold refused in (sound-endpoint s (raised-valid (flagOf n) (flag-valid n) (s .state)))
+
     fill : (w : World) (i at : ℕ) → Joining w₀ packet w i at → Sound w → Sound (filled w₀ packet w i at)
     fill w i at j s = sound-store i _ s (put-store i at (payloadOf packet) (j .fits) s)
 

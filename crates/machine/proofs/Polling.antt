@@ -65,28 +65,40 @@ poll-case w buffer s =
   where
     flags : Bool
     flags = not (pausedAt w 0) && not (pausedAt w 1)
+
     After : Polled → Type 0
     After p = PollCase w buffer (byPoll w p)
+
     -- a counted poll finds what is chosen
     unpaused : {x : Ready} → ready (w .endpoint) ≡ x → counts (poll buffer) w ≡ true → chosen (w .endpoint) ≡ x
     unpaused e c =
         let k = both-false (pausedAt w 0) (pausedAt w 1) (and-both (leb 68 (length buffer)) (not (pausedAt w 0) && not (pausedAt w 1)) c .1) in
-        unfold ready in (rw k at e)
+        unfold ready in (go (anyPaused (w .endpoint)) refl k e)
+      where
+        go : {x : Ready} (b : Bool) → anyPaused (w .endpoint) ≡ b → (pausedAt w 0 || pausedAt w 1) ≡ false
+            → _≡_ {A = Ready} (if b then Nothing else chosen (w .endpoint)) x → chosen (w .endpoint) ≡ x
+        go true f k q = false-true (sym k ∙ f)
+        go false f k q = q
+
     nothing : {A : Type 0} {i : ℕ} {r : Response} → Nothing ≡ From i r → A
     nothing n = absurd (omega (arith, zero-one n))
       where
         zero-one : {i : ℕ} {r : Response} → Nothing ≡ From i r → _≡_ {A = ℕ} 0 1
         zero-one n = cc
+
     control-goes : w .endpoint .«reply_waits» ≡ true
         → (counts (poll buffer) w ≡ true → (chosen (w .endpoint) ≡ Nothing → ⊥) → w .endpoint .«last_control» ≡ false) → After (sentControl (w .endpoint) buffer)
     control-goes a b =
         unfold sentControl in
         (rw (take-append-seam (controlPacket (w .endpoint)) (drop (length (controlPacket (w .endpoint))) buffer)) (replies a b))
+
     found : {i : ℕ} {r : Response} → ready (w .endpoint) ≡ From i r → ((pausedAt w 0 || pausedAt w 1) ≡ false) × (chosen (w .endpoint) ≡ From i r)
     found e = unfold ready in (if-second (anyPaused (w .endpoint)) nothing e)
+
     command-goes : (i : ℕ) (r : Response) → chosen (w .endpoint) ≡ From i r → counts (poll buffer) w ≡ true → After (sentCommand w i r buffer)
     command-goes i r e c =
         unfold sentCommand in (rw (take-append-seam (commandPacket w i r) (drop (length (commandPacket w i r)) buffer)) (sends i r e c))
+
     by : ltb (length buffer) packet-room ≡ false → (x : Ready) → ready (w .endpoint) ≡ x → After (polledBy w buffer x)
     by room Nothing e =
         if-ind After (w .endpoint .«reply_waits») (λ a. control-goes a (λ c n. absurd (n (unpaused e c)))) (λ _. still 0 (unpaused e))
@@ -199,6 +211,7 @@ module _ (w : World) (buffer : List ℕ) (log : ℕ → Log) (s₀ : Sound w) (f
         where
           v : Valid (w .endpoint)
           v = s₀ .state
+
           by : Which i j → PollKept (slotAt (w .endpoint) j) (slotAt (withSlot (w .endpoint) i (afterPacket (slotAt (w .endpoint) i) r)) j) (storeAt w j) (log j)
               (transmitted (phaseAt w j) (slotAt (withSlot (w .endpoint) i (afterPacket (slotAt (w .endpoint) i) r)) j .phase) (handed-out (commandPacket w i r)) (log j))
           by (this q) = rw (q, slot-this i (c .slot-is) v (afterPacket (slotAt (w .endpoint) i) r)) (sent-kept i r (c .slot-is) (c .sends))

@@ -53,7 +53,6 @@ pub record Carries (c : Call) (w : World) (log : ℕ → Log) (s : Stepped) : Ty
 
 module _ (w₀ : World) (packet : List ℕ) (log : ℕ → Log) (s₀ : Sound w₀)
     (fits : (j : ℕ) → j ≤ 1 → Fit (slotAt (w₀ .endpoint) j) (storeAt w₀ j) (log j)) where
-
   abbrev eid₀ : ℕ
   eid₀ = w₀ .endpoint .eid
 
@@ -143,6 +142,7 @@ module _ (w₀ : World) (packet : List ℕ) (log : ℕ → Log) (s₀ : Sound w�
       that-one js =
           rw (k .that-log, k .that-store, m .stores (otherSlot i))
           (mid-carried w m (o .answer) (otherSlot i) js (slotAt (o .world .endpoint) (otherSlot i)) (k .that-phase) (k .that-ticket))
+
       at : (j : ℕ) → j ≤ 1 → Which i j → Carried (Cut j) (slotAt (w₀ .endpoint) j) (slotAt (o .world .endpoint) j) (storeAt (o .world) j) (log j) (LogOf j (o .answer) (slotAt (o .world .endpoint) j))
       at j js (this e) = rw e (k .this-slot)
       at j js (that e) = rw e (that-one (rw e at js))
@@ -182,8 +182,8 @@ module _ (w₀ : World) (packet : List ℕ) (log : ℕ → Log) (s₀ : Sound w�
         that-store = refl;
         that-log = refusal-log (otherSlot i) packet w₀ n (log (otherSlot i)) (omega arith);
         this-slot =
-          rw (a, refusal-log i packet w₀ n (log i) (omega arith))
-          (carried-ended (storeAt w i) n (was-early w m i is early) refl (m .tickets i is) (fits i is .ticket-is));
+            rw (a, refusal-log i packet w₀ n (log i) (omega arith))
+            (carried-ended (storeAt w i) n (was-early w m i is early) refl (m .tickets i is) (fits i is .ticket-is));
       })
 
   failing : (w : World) (i at : ℕ) → Joining w₀ packet w i at → Mid w → Ends (refused (dropped (filled w₀ packet w i at) i) 19)
@@ -257,11 +257,12 @@ module _ (w₀ : World) (packet : List ℕ) (log : ℕ → Log) (s₀ : Sound w�
     where
       room : {n : ℕ} → n + length (payloadOf packet) ≤ store-size → n ≤ length (storeAt w i)
       room h = rw (store-at i (m .sound)) (omega arith)
+
       go : {n : ℕ} → n + length (payloadOf packet) ≤ store-size → Origin w₀ packet w i n → take (n + length (payloadOf packet)) (put (storeAt w i) n (payloadOf packet)) ≡ requestWith packet (log i)
       go h (opens som e) = rw som (take-joined (storeAt w i) 0 (payloadOf packet) (room h))
       go h (goes-on som a ph fr) =
           let before : take (a .length) (storeAt w₀ i) ≡ log i .request =
-                rw (sym (phase-before w m i (j .slot-is) som) ∙ ph) at (fits i (j .slot-is) .phase-fits) in
+          rw (sym (phase-before w m i (j .slot-is) som) ∙ ph) at (fits i (j .slot-is) .phase-fits) in
           rw som (take-joined (storeAt w i) (a .length) (payloadOf packet) (room h) ∙ rw (m .stores i, before) refl)
 
   gain : (w : World) (i at : ℕ) → Joining w₀ packet w i at → unit ≤ at + length (payloadOf packet) → Mid w
@@ -281,12 +282,12 @@ module _ (w₀ : World) (packet : List ℕ) (log : ℕ → Log) (s₀ : Sound w�
         that-store = store-that w i is _;
         that-log = that-gains w i at m j 0;
         this-slot =
-          rw (a, for-this w i at m j, quiet-other (phaseAt w₀ i) (Receive (grown w₀ packet at)) 0 (gaining packet (log i)) refl)
-          (record {
-            fit = record { phase-fits = front w i at m j; ticket-is = rw (m .tickets i is) (fits i is .ticket-is) };
-            entry = stayed refl (λ h. false-true h);
-            steady = newly (was-early w m i is (j .early)) refl;
-          });
+            rw (a, for-this w i at m j, quiet-other (phaseAt w₀ i) (Receive (grown w₀ packet at)) 0 (gaining packet (log i)) refl)
+            (record {
+              fit = record { phase-fits = front w i at m j; ticket-is = rw (m .tickets i is) (fits i is .ticket-is) };
+              entry = stayed refl (λ h. false-true h);
+              steady = newly (was-early w m i is (j .early)) refl;
+            });
       })
 
   -- ---- the command is whole
@@ -370,7 +371,7 @@ module _ (w₀ : World) (packet : List ℕ) (log : ℕ → Log) (s₀ : Sound w�
     ticket-next : slotAt e₂ i .ticket .0 ≡ (log i .entries + 1) % 2 ^ 32
     ticket-next =
         let t : slotAt e₂ i .ticket ≡ nextTicket (slotAt (w₀ .endpoint) i .ticket) =
-              alike .same-ticket i (j .slot-is) ∙ rw (this-at, m .tickets i (j .slot-is)) refl in
+        alike .same-ticket i (j .slot-is) ∙ rw (this-at, m .tickets i (j .slot-is)) refl in
         rw t (next-ticket (slotAt (w₀ .endpoint) i .ticket .0) (log i .entries) (fits i (j .slot-is) .ticket-is))
 
     whole-is : whole w₀ packet w i at ≡ asked
@@ -379,7 +380,7 @@ module _ (w₀ : World) (packet : List ℕ) (log : ℕ → Log) (s₀ : Sound w�
     size-is : at + length (payloadOf packet) ≡ length asked
     size-is =
         let room : at + length (payloadOf packet) ≤ length (storeAt (filled w₀ packet w i at) i) =
-              rw (store-this w i (j .slot-is) (put (storeAt w i) at (payloadOf packet)), length-put (storeAt w i) at (payloadOf packet) fit, store-at i (m .sound)) (j .fits) in
+        rw (store-this w i (j .slot-is) (put (storeAt w i) at (payloadOf packet)), length-put (storeAt w i) at (payloadOf packet) fit, store-at i (m .sound)) (j .fits) in
         rw (sym whole-is) (sym (length-take-le (at + length (payloadOf packet)) (storeAt (filled w₀ packet w i at) i) room))
       where
         fit : at + length (payloadOf packet) ≤ length (storeAt w i)
@@ -400,16 +401,16 @@ module _ (w₀ : World) (packet : List ℕ) (log : ℕ → Log) (s₀ : Sound w�
           that-store = store-that w i (j .slot-is) _;
           that-log = that-gains w i at m j 1;
           this-slot =
-            rw (for-this w i at m j, quiet-other (phaseAt w₀ i) (slotAt e₂ i .phase) 1 (entering i packet (log i)) (rw in-process refl))
-            (record {
-              fit =
-                record {
-                  phase-fits = rw in-process (record { held = whole-is; kind-is = rw whole-is refl; from = refl; under = refl });
-                  ticket-is = ticket-next;
-                };
-              entry = entered refl;
-              steady = newly was (rw in-process refl);
-            });
+              rw (for-this w i at m j, quiet-other (phaseAt w₀ i) (slotAt e₂ i .phase) 1 (entering i packet (log i)) (rw in-process refl))
+              (record {
+                fit =
+                    record {
+                      phase-fits = rw in-process (record { held = whole-is; kind-is = rw whole-is refl; from = refl; under = refl });
+                      ticket-is = ticket-next;
+                    };
+                entry = entered refl;
+                steady = newly was (rw in-process refl);
+              });
         })
 
     -- or it is answered at once
@@ -436,10 +437,10 @@ module _ (w₀ : World) (packet : List ℕ) (log : ℕ → Log) (s₀ : Sound w�
           that-store = store-that w₂ i is (put (storeAt w₂ i) response-place text) ∙ store-that w i is _;
           that-log = that-gains w i at m j 1;
           this-slot =
-            rw (a, for-this w i at m j)
-            (carried-settled (entering i packet (log i)) 1 b r (early-silent (phaseAt w₀ i) was) refl refl
-            (record { held = rw stored (lies ∙ text-is); size = rw (sym text-is) n; to = refl; under = refl }) ticket-next (entered refl)
-            (newly was (settled-begun b r refl)));
+              rw (a, for-this w i at m j)
+              (carried-settled (entering i packet (log i)) 1 b r (early-silent (phaseAt w₀ i) was) refl refl
+              (record { held = rw stored (lies ∙ text-is); size = rw (sym text-is) n; to = refl; under = refl }) ticket-next (entered refl)
+              (newly was (settled-begun b r refl)));
         })
 
     at-once : (f : Fault) → commandFault mh (at + length (payloadOf packet)) ≡ f → Ends (outcome 1 (respondedAtOnce w₂ i command f))
@@ -478,6 +479,7 @@ module _ (w₀ : World) (packet : List ℕ) (log : ℕ → Log) (s₀ : Sound w�
     where
       plain : {x : Phase} → t .phase ≡ x → x ≡ phaseAt w₀ j → Carried (Cut j) (slotAt (w₀ .endpoint) j) t (storeAt w₀ j) (log j) (quietly j 2 t)
       plain a b = carried-same 2 (a ∙ b) (k ∙ q) (fits j js)
+
       go : (x : Phase) → t .phase ≡ releasedPhase x → x ≡ phaseAt w₀ j → Carried (Cut j) (slotAt (w₀ .endpoint) j) t (storeAt w₀ j) (log j) (quietly j 2 t)
       go Idle a b = plain a b
       go (Receive x) a b = plain a b
@@ -503,10 +505,13 @@ module _ (w₀ : World) (packet : List ℕ) (log : ℕ → Log) (s₀ : Sound w�
     where
       v : Valid (w .endpoint)
       v = m .sound .state
+
       e : Endpoint
       e = withSlot (w .endpoint) i (idled (slotAt (w .endpoint) i))
+
       this-one : Carried (Cut i) (slotAt (w₀ .endpoint) i) (idled (slotAt (w .endpoint) i)) (storeAt w₀ i) (log i) (quietly i 2 (idled (slotAt (w .endpoint) i)))
       this-one = carried-cut (storeAt w₀ i) 2 c refl (m .tickets i is) (fits i is .ticket-is)
+
       at : (j : ℕ) → j ≤ 1 → Which i j → Carried (Cut j) (slotAt (w₀ .endpoint) j) (slotAt (withSlot (w .endpoint) i (idled (slotAt (w .endpoint) i))) j) (storeAt w₀ j) (log j) (quietly j 2 (slotAt (withSlot (w .endpoint) i (idled (slotAt (w .endpoint) i))) j))
       at j js (this q) = rw (q, slot-this i is v (idled (slotAt (w .endpoint) i))) this-one
       at j js (that q) = rw (q, slot-that i is v (idled (slotAt (w .endpoint) i))) (mid-carried w m 2 (otherSlot i) (other-most i) (slotAt (w .endpoint) (otherSlot i)) refl refl)
@@ -519,6 +524,7 @@ module _ (w₀ : World) (packet : List ℕ) (log : ℕ → Log) (s₀ : Sound w�
       phase : (j : ℕ) → Which i j → slotAt (withSlot e i (withBusy (slotAt e i) false)) j .phase ≡ slotAt e j .phase
       phase j (this q) = rw (q, slot-this i is v (withBusy (slotAt e i) false)) refl
       phase j (that q) = rw (q, slot-that i is v (withBusy (slotAt e i) false)) refl
+
       ticket : (j : ℕ) → Which i j → slotAt (withSlot e i (withBusy (slotAt e i) false)) j .ticket ≡ slotAt e j .ticket
       ticket j (this q) = rw (q, slot-this i is v (withBusy (slotAt e i) false)) refl
       ticket j (that q) = rw (q, slot-that i is v (withBusy (slotAt e i) false)) refl
@@ -583,6 +589,7 @@ module _ (w₀ : World) (packet : List ℕ) (log : ℕ → Log) (s₀ : Sound w�
     where
       mh : MessageHeader
       mh = messageHeader (payloadOf packet)
+
       -- an error reply
       fault : Ends (outcome 2 w)
       fault =
@@ -591,6 +598,7 @@ module _ (w₀ : World) (packet : List ℕ) (log : ℕ → Log) (s₀ : Sound w�
             last-is = m .last-is;
             carried = λ j js. rw (m .stores j) (mid-carried w m 2 j js (slotAt (w .endpoint) j) refl refl);
           }
+
       go : (f : Fault) → controlFault (messageHeader (payloadOf packet)) (opcodeOf (payloadOf packet)) ≡ f
           → Ends (outcome 2 (withEndpoint w (controlledBy (w .endpoint) (fields packet) (messageHeader (payloadOf packet) .csi) (payloadOf packet) f)))
       go NoFault e =
@@ -644,8 +652,10 @@ module _ (w₀ : World) (packet : List ℕ) (log : ℕ → Log) (s₀ : Sound w�
     where
       over : Slot → Slot
       over = endedSlot (fields packet .source) (fields packet .tag)
+
       ticket : (s : Slot) → endedSlot (fields packet .source) (fields packet .tag) s .ticket ≡ s .ticket
       ticket s = if-ind (λ (x : Slot). x .ticket ≡ s .ticket) (gathers (fields packet .source) (fields packet .tag) (s .phase)) (λ _. refl) (λ _. refl)
+
       phase : (s : Slot) → MidPhase (s .phase) (endedSlot (fields packet .source) (fields packet .tag) s .phase)
       phase s =
           if-ind (λ (x : Slot). MidPhase (s .phase) (x .phase)) (gathers (fields packet .source) (fields packet .tag) (s .phase))

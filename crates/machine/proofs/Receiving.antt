@@ -117,6 +117,7 @@ read-facts eid packet {h} e =
     same-true : (b : Bool) → same b true ≡ true → b ≡ true
     same-true true q = refl
     same-true false q = q
+
     packet-is : Packet (fields packet) ≡ Packet h → h ≡ fields packet
     packet-is q = cc
 
@@ -309,7 +310,7 @@ module _ (w₀ : World) (packet : List ℕ) (P : World → Type 0) (Q : Outcome 
       let v = k .sound w p .state in
       let size : PhaseFacts (slotAt (w .endpoint) i .paused) (Receive a) = rw (held .gathers-it) at (facts-at i is v) in
       let free : gathers (H .source) (H .tag) (slotAt (w .endpoint) (otherSlot i) .phase) ≡ false =
-            rw (sym (same .0), sym (same .1)) (alone-at i is v a (held .gathers-it)) in
+      rw (sym (same .0), sym (same .1)) (alone-at i is v a (held .gathers-it)) in
       let refusal = joinRefusal unit store-size (a .sequence) (a .length) H (length M) in
       if-ind Q (eqb refusal 0)
       (λ none.

@@ -119,9 +119,11 @@ take-unchanged e i n = if-ind Left? (not (isSlot i)) (λ _ _. refl) (λ _. from 
   where
     Left? : TakeDone → Type 0
     Left? d = takeEvent (d .answer) ≡ number n → d .endpoint ≡ e
+
     row : (r : Request) (t : Taking) → Left? (takenRow e i r t)
     row r Untaken q = given-number q
     row r Taken q = refl
+
     from : (p : Phase) → Left? (takenFrom e i p)
     from Idle q = refl
     from (Receive a) q = refl
@@ -136,9 +138,11 @@ complete-unchanged w i t body =
   where
     Left? : Outcome → Type 0
     Left? o = 30 ≤ o .answer → o .world ≡ w
+
     row : (r : Request) (u : Taking) → Left? (completedRow w i r body u)
     row r Untaken = λ _. refl
     row r Taken = if-ind Left? (not (isBody body)) (λ _ _. refl) (λ _ h. absurd (omega arith))
+
     into : (p : Phase) → Left? (completedIn w i t body p)
     into Idle = λ _. refl
     into (Receive a) = λ _. refl
@@ -162,6 +166,7 @@ poll-unchanged w buffer n =
   where
     Left? : Polled → Type 0
     Left? p = pollEvent (p .buffer) (p .answer) ≡ number n → p .endpoint ≡ w .endpoint
+
     by : (x : Ready) → Left? (polledBy w buffer x)
     by Nothing = if-ind Left? (w .endpoint .«reply_waits») (λ _ q. out-number q) (λ _ _. refl)
     by (From i r) = if-ind Left? (replyFirst (w .endpoint)) (λ _ q. out-number q) (λ _ q. out-number q)
@@ -245,11 +250,14 @@ take-named e i n = if-ind Says (not (isSlot i)) (λ _ q. listed 30 q refl) (λ _
   where
     Says : TakeDone → Type 0
     Says d = takeEvent (d .answer) ≡ number n → In (30 ∷ 31 ∷ 33 ∷ []) n
+
     listed : (k : ℕ) → number k ≡ number n → In (30 ∷ 31 ∷ 33 ∷ []) k → In (30 ∷ 31 ∷ 33 ∷ []) n
     listed k q h = rw (sym (same-number q)) h
+
     row : (r : Request) (t : Taking) → Says (takenRow e i r t)
     row r Untaken = λ q. given-number q
     row r Taken = λ q. listed 33 q refl
+
     from : (p : Phase) → Says (takenFrom e i p)
     from Idle = λ q. listed 31 q refl
     from (Receive a) = λ q. listed 31 q refl
@@ -266,9 +274,11 @@ complete-named w i t body = if-ind Says (wrongStores w) (λ _. refl) (λ _. if-i
   where
     Says : Outcome → Type 0
     Says o = In completing (o .answer)
+
     row : (r : Request) (u : Taking) → Says (completedRow w i r body u)
     row r Untaken = refl
     row r Taken = if-ind Says (not (isBody body)) (λ _. refl) (λ _. refl)
+
     into : (p : Phase) → Says (completedIn w i t body p)
     into Idle = refl
     into (Receive a) = refl
@@ -291,8 +301,10 @@ poll-named w buffer n =
   where
     Says : Polled → Type 0
     Says p = pollEvent (p .buffer) (p .answer) ≡ number n → In (0 ∷ 36 ∷ 40 ∷ []) n
+
     listed : (k : ℕ) → number k ≡ number n → In (0 ∷ 36 ∷ 40 ∷ []) k → In (0 ∷ 36 ∷ 40 ∷ []) n
     listed k q h = rw (sym (same-number q)) h
+
     by : (x : Ready) → Says (polledBy w buffer x)
     by Nothing = if-ind Says (w .endpoint .«reply_waits») (λ _ q. out-number q) (λ _ q. listed 0 q refl)
     by (From i r) = if-ind Says (replyFirst (w .endpoint)) (λ _ q. out-number q) (λ _ q. out-number q)
@@ -319,6 +331,7 @@ not-received n h lo hi = false-true (sym (absent receiving refl) ∙ h)
     outside : List ℕ → Bool
     outside [] = true
     outside (k ∷ ks) = (ltb k 30 || ltb 38 k) && outside ks
+
     absent : (ks : List ℕ) → outside ks ≡ true → isOneOf n ks ≡ false
     absent [] q = refl
     absent (k ∷ ks) q =

@@ -95,6 +95,7 @@ take-gives w s i t = if-ind (Gives w i t) (not (isSlot i)) (λ _ e. number-given
     row : i ≤ 1 → (r : Request) (u : Taking) → Gives w i t (takenRow (w .endpoint) i r u)
     row is r Untaken e = (is, same-ticket e, (r, ap (λ (x : Slot). x .phase) (slot-this i is (s .state) _)))
     row is r Taken e = number-given e
+
     from : i ≤ 1 → (p : Phase) → Gives w i t (takenFrom (w .endpoint) i p)
     from is Idle e = number-given e
     from is (Receive a) e = number-given e
@@ -172,6 +173,7 @@ accepted w s i is t body e = into (phaseAt w i) (rw (right-stores w s, slot-yes 
       where
         same : (n : ℕ) → number (suc n) ≡ number 0 → suc n ≡ 0
         same n q = cc
+
     into : (p : Phase) → _≡_ {A = Event} (number (completedIn w i t body p .answer)) (number 0) → (isProcess p ≡ true) × (t .0 ≡ slotAt (w .endpoint) i .ticket .0)
     into Idle q = refused 30 q
     into (Receive a) q = refused 30 q
@@ -195,7 +197,7 @@ completes : (h : History) (i : ℕ) (t : Ticket) (body : List ℕ) → step (com
 unfolding next
 completes h i t body e =
     transmitted-response (phaseAt (h .world) i) (phaseAt (step (complete i t body) (h .world) .world) i) (step (complete i t body) (h .world) .event)
-      (commanded i (complete i t body) (h .world) (step (complete i t body) (h .world) .event) (h .log i))
+    (commanded i (complete i t body) (h .world) (step (complete i t body) (h .world) .event) (h .log i))
     ∙ go (step (complete i t body) (h .world) .event) e
   where
     go : (v : Event) → v ≡ number 0 → commanded i (complete i t body) (h .world) v (h .log i) .response ≡ responseFor i (h .log i .request) body
@@ -224,7 +226,7 @@ answers-own eid store0 store1 a b xs i t e ys body hi done =
     let since = since-run i is (h .log i .entries) (h₁ .log i .request) ys h₁ g₁ (record { grown = omega (arith, n); kept = λ _ _. refl }) in
     let mine : t .0 ≡ h .log i .entries % 2 ^ 32 = ap (λ (x : Ticket). x .0) (k .ticket-is) ∙ g .fits i is .ticket-is in
     let same-count : h₂ .log i .entries ≡ h .log i .entries =
-          not-older (h .log i .entries) (h₂ .log i .entries) (since .grown) hi (sym mine ∙ c .1 ∙ g₂ .fits i is .ticket-is) in
+    not-older (h .log i .entries) (h₂ .log i .entries) (since .grown) hi (sym mine ∙ c .1 ∙ g₂ .fits i is .ticket-is) in
     let request-is : h₂ .log i .request ≡ h₁ .log i .request = since .kept same-count (c .0) in
     record {
       no-entry = same-count;
@@ -274,21 +276,25 @@ module _ (h : History) (g : Good h) (buffer : List ℕ) where
     where
       picked : Chosen (h .world .endpoint) k q
       picked = chosen-at (h .world .endpoint) (g .sound .state) c
+
       ks : k ≤ 1
       ks = picked .slot-is
+
       after : Slot
       after = afterPacket (slotAt (h .world .endpoint) k) q
+
       own : moved (phaseAt (h .world) k) (slotAt (withSlot (h .world .endpoint) k (afterPacket (slotAt (h .world .endpoint) k) q)) k .phase) ≡ true
       own = go (phaseAt (h .world) k) _ (picked .sends) (ap (λ (s : Slot). s .phase) (slot-this k ks (g .sound .state) (afterPacket (slotAt (h .world .endpoint) k) q)))
         where
           go : (p x : Phase) → p ≡ Transmit q → x ≡ afterPacket (slotAt (h .world .endpoint) k) q .phase → moved p x ≡ true
           go p x a b = rw (a, b) (onward-moves (onward (slotAt (h .world .endpoint) k) q))
+
       at : (i : ℕ) → i ≤ 1 → Which k i → moved (phaseAt (h .world) i) (slotAt (withSlot (h .world .endpoint) k (afterPacket (slotAt (h .world .endpoint) k) q)) i .phase) ≡ true
           → bytes ≡ packet 64 (routeOf h i) (h .log i .response) (h .log i .packets)
       at i is (this p) m = same-bytes e ∙ rw p (next-packet k ks q (picked .sends))
       at i is (that p) m =
           let still-there : slotAt (withSlot (h .world .endpoint) k (afterPacket (slotAt (h .world .endpoint) k) q)) i .phase ≡ phaseAt (h .world) i =
-                rw p (ap (λ (s : Slot). s .phase) (slot-that k ks (g .sound .state) (afterPacket (slotAt (h .world .endpoint) k) q))) in
+          rw p (ap (λ (s : Slot). s .phase) (slot-that k ks (g .sound .state) (afterPacket (slotAt (h .world .endpoint) k) q))) in
           false-true (sym (moved-same (phaseAt (h .world) i)) ∙ sym (ap (moved (phaseAt (h .world) i)) still-there) ∙ m)
 
   -- a command packet goes by a poll that is counted

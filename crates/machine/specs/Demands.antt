@@ -56,7 +56,7 @@ Demand3 =
     → (1 ≤ packetsLeft i (run xs (start eid store0 store1)))
     × (packetsLeft i (run xs (start eid store0 store1)) ≤ 66)
     × Within (run xs (start eid store0 store1) .counted + pollsFor (packetsLeft i (run xs (start eid store0 store1)))) i
-      (fate i ys (run xs (start eid store0 store1)))
+    (fate i ys (run xs (start eid store0 store1)))
 
 -- what people quote: 264 polls at most, whatever is left
 abbrev pub AtMost264 : Type 0

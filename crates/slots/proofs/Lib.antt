@@ -1,0 +1,5 @@
+pub mod Kept
+pub mod Other
+pub mod Rows
+pub mod Sizes
+pub mod Stores
