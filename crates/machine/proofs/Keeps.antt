@@ -595,7 +595,7 @@ chosen-at e v {i} {r} h = first (begun-or 0 (slotAt e 0 .phase) (begunOr 1 (slot
     first (here k p b) = rw (sym k) (record { slot-is = omega arith; sends = p; first-of-two = λ g. both-begun v b g })
     first (there n a) = second a (begun-or 1 (slotAt e 1 .phase) turns n)
 
-ready-at : (e : Endpoint) → Valid e → {i : ℕ} {r : Response} → ready e ≡ From i r → Chosen e i r
+pub ready-at : (e : Endpoint) → Valid e → {i : ℕ} {r : Response} → ready e ≡ From i r → Chosen e i r
 unfolding ready
 ready-at e v h = chosen-at e v (if-second (anyPaused e) (λ n. absurd (omega (arith, nothing n))) h .1)
   where

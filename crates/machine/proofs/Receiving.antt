@@ -40,7 +40,7 @@ use Rattle.machine.proofs.Slots.{false-true, isEarly, idle-early, facts
 -- ---- what the tests say of a payload
 
 -- not cut short: without EOM it is a whole unit
-full-unit : (h : Header) (n : ℕ) → isCut unit h n ≡ false → h .eom ≡ false → n ≡ unit
+pub full-unit : (h : Header) (n : ℕ) → isCut unit h n ≡ false → h .eom ≡ false → n ≡ unit
 full-unit h n c e = eqb-true n unit (not-false (eqb n unit) (rw e at c))
 
 -- with EOM it is a message
@@ -57,15 +57,18 @@ refused-packet {n = n} {h = h} e = absurd (omega (arith, zero-one e))
     zero-one : Refused n ≡ Packet h → _≡_ {A = ℕ} 0 1
     zero-one e = cc
 
--- a packet that is read has 1 to 64 payload bytes
-read-sized : (eid : ℕ) (packet : List ℕ) {h : Header} → readHeader eid unit inward packet ≡ Packet h → Sized packet
+-- a packet that is read has a header and 1 to 64 payload bytes
+pub packet-sized : (eid : ℕ) (packet : List ℕ) {h : Header} → readHeader eid unit inward packet ≡ Packet h → (5 ≤ length packet) × (length packet ≤ 68)
 unfolding readHeader
-read-sized eid packet e =
+packet-sized eid packet e =
     let a = if-second (ltb (length packet) 5) refused-packet e in
     let b = if-second (ltb (unit + 4) (length packet)) refused-packet (a .1) in
-    let lo : 5 ≤ length packet = ltb-false (length packet) 5 (a .0) in
-    let hi : length packet ≤ 68 = ltb-false 68 (length packet) (b .0) in
-    record { some = rw (length-drop 4 packet) (omega arith); most = rw (length-drop 4 packet) (omega arith) }
+    (ltb-false (length packet) 5 (a .0), ltb-false 68 (length packet) (b .0))
+
+read-sized : (eid : ℕ) (packet : List ℕ) {h : Header} → readHeader eid unit inward packet ≡ Packet h → Sized packet
+read-sized eid packet e =
+    let k = packet-sized eid packet e in
+    record { some = rw (length-drop 4 packet) (omega (arith, k .0)); most = rw (length-drop 4 packet) (omega (arith, k .1)) }
 
 -- a later packet that is not refused joins
 pub record Joins (h : Header) (gathered n : ℕ) : Type 0 where
@@ -124,7 +127,7 @@ read-facts eid packet {h} e =
 not-zero : {A : Type 0} (n : ℕ) → suc n ≡ 0 → A
 not-zero n e = absurd (omega arith)
 
-joins : (sequence gathered n : ℕ) (h : Header) → joinRefusal unit store-size sequence gathered h n ≡ 0 → Joins h gathered n
+pub joins : (sequence gathered n : ℕ) (h : Header) → joinRefusal unit store-size sequence gathered h n ≡ 0 → Joins h gathered n
 unfolding joinRefusal
 joins sequence gathered n h e =
     let a = if-second (not (eqb (h .sequence) ((sequence + 1) % 4))) (not-zero 21) e in

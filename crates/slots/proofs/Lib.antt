@@ -1,5 +1,4 @@
 pub mod Kept
 pub mod Other
 pub mod Rows
-pub mod Sizes
 pub mod Stores

@@ -3,20 +3,17 @@
 -- Assumes nothing.
 use Prim.Native.Nat.{ℕ, _*_, _≤_, _<_}
 use mathlib.Core.Path.{_≡_, refl, sym, _∙_}
-use mathlib.Core.Bool.{_||_}
 use mathlib.Core.Logic.{⊎-elim}
 use native.Mathlib.Omega.{arith}
 use borrow.Author.Needs.{needs}
-use Rattle.lent.proofs.Choice.{if-second}
-use Rattle.machine.specs.State.{slotAt}
 use Rattle.machine.specs.Wire.{unit, store-size}
 use Rattle.machine.specs.Poll.{ready}
 use Rattle.machine.specs.Valid.{Valid}
 use Rattle.machine.specs.declared.Response.{Response}
 use Rattle.machine.specs.declared.Endpoint.{Endpoint}
-use Rattle.machine.specs.declared.Ready.the-variants.{Nothing, From}
+use Rattle.machine.specs.declared.Ready.the-variants.{From}
 use Rattle.machine.proofs.Slots.{facts-at}
-use Rattle.machine.proofs.Keeps.{Chosen, chosen-at}
+use Rattle.machine.proofs.Keeps.{ready-at}
 use Rattle.slots.proofs.Rows.{row, later, both}
 use Rattle.polling.proofs.polled_by.Statement.{statement}
 use Rattle.polling.proofs.polled_by.Tie as tie
@@ -24,15 +21,10 @@ use Rattle.polling.proofs.polled_by.Tie as tie
 -- the response that is ready has a packet left, and fits its store
 bounds : (e : Endpoint) → Valid e → {i : ℕ} {r : Response} → ready e ≡ From i r
     → (i < 2) × (unit * r .sent < r .length) × (r .length ≤ store-size)
-unfolding ready
 bounds e v {i} {r} h =
-    let paused = slotAt e 0 .paused || slotAt e 1 .paused in
-    let k : Chosen e i r = chosen-at e v (if-second paused (λ n. absurd (omega (arith, nothing n))) h .1) in
+    let k = ready-at e v h in
     let f = rw (k .sends) at (facts-at i (k .slot-is) v) in
     (omega (arith, k .slot-is), f .0, f .1 .most)
-  where
-    nothing : Nothing ≡ From i r → _≡_ {A = ℕ} 0 1
-    nothing n = cc
 
 returns : tie.Need-returns
 returns c =

@@ -10,7 +10,7 @@ use borrow.Author.Needs.{needs}
 use borrow.Author.Tests.{not-false}
 use Rattle.machine.specs.Receive.{checked}
 use Rattle.machine.specs.State.{outcome}
-use Rattle.slots.proofs.Sizes.{right-long}
+use Rattle.receiving.proofs.Sizes.{right-long}
 use Rattle.slots.proofs.Stores.{chosen-length}
 use Rattle.receiving.proofs.checked.Statement.{statement}
 use Rattle.receiving.proofs.checked.Tie as tie

@@ -12,7 +12,7 @@ use borrow.Author.Tests.{eq-eqb, ne-eqb, ltb-false}
 use Rattle.machine.proofs.Receiving.{csi-most}
 use Rattle.machine.specs.Receive.{first}
 use Rattle.machine.specs.Wire.{smallest}
-use Rattle.slots.proofs.Sizes.{uncut}
+use Rattle.machine.proofs.Receiving.{full-unit}
 use Rattle.receiving.proofs.first.Statement.{statement}
 use Rattle.receiving.proofs.first.Tie as tie
 
@@ -38,7 +38,7 @@ read-message-header-requires c κs =
     let whole = c .before in
     let a = whole .before .before .before .before .before .before .before .args in
     let n = length (a .message .now) in
-    ⊎-elim (λ w. omega (arith, ltb-false n smallest (w .1 .left))) (λ w. omega (arith, uncut (a .header) n (sym (whole .before .is-cut .ensures) ∙ whole .if2 .left) (w .left))) (c .if3 .came)
+    ⊎-elim (λ w. omega (arith, ltb-false n smallest (w .1 .left))) (λ w. omega (arith, full-unit (a .header) n (sym (whole .before .is-cut .ensures) ∙ whole .if2 .left) (w .left))) (c .if3 .came)
 
 first-message-requires : tie.Need-first-message-requires
 first-message-requires c κs =

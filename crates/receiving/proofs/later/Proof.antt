@@ -8,7 +8,8 @@ use lib.ListN.{length}
 use borrow.Author.Needs.{needs}
 use Rattle.machine.specs.Receive.{later}
 use Rattle.machine.specs.Wire.{store-size}
-use Rattle.slots.proofs.Sizes.{join-fits, held}
+use Rattle.receiving.proofs.Sizes.{held}
+use Rattle.machine.proofs.Receiving.{joins}
 use Rattle.receiving.proofs.later.Statement.{statement}
 use Rattle.receiving.proofs.later.Tie as tie
 
@@ -34,7 +35,7 @@ later-at-requires c κs =
       search needs,
       search needs,
       omega (arith, found-at found .0),
-      λ e. join-fits (assembly .sequence) (assembly .length) (length (a .payload .now)) (a .header) (sym (join .join-refusal .ensures) ∙ e),
+      λ e. joins (assembly .sequence) (assembly .length) (length (a .payload .now)) (a .header) (sym (join .join-refusal .ensures) ∙ e) .fits,
     )
 
 returns-2 : tie.Need-returns-2

@@ -16,7 +16,8 @@ use Rattle.machine.specs.Receive.{endAssembly, first, received}
 use Rattle.machine.specs.State.{World, world, withEndpoint}
 use Rattle.machine.specs.Wire.{unit, inward, wrongStores}
 use Rattle.slots.proofs.Kept.{kept}
-use Rattle.slots.proofs.Sizes.{rest, read-sized}
+use Rattle.receiving.proofs.Sizes.{rest}
+use Rattle.machine.proofs.Receiving.{packet-sized}
 use Rattle.slots.proofs.Stores.{Stays}
 use Rattle.receiving.proofs.receive.Statement.{statement}
 use Rattle.receiving.proofs.receive.Tie as tie
@@ -40,7 +41,7 @@ sized : (r : tie.After-read) → let n = length (start (r .before .before .befor
 sized r =
     let header = r .before .before in
     let s = start (header .before) in
-    read-sized (s .args .endpoint .eid) (s .args .packet .now) (sym (header .read-header .ensures) ∙ r .read .given .1)
+    packet-sized (s .args .endpoint .eid) (s .args .packet .now) (sym (header .read-header .ensures) ∙ r .read .given .1)
 
 -- SOM 1, of a packet that is read
 by-first : (w : World) (packet : List ℕ) (h : Header) → wrongStores w ≡ false → readHeader (w .endpoint .eid) unit inward packet ≡ Packet h → h .som ≡ true
