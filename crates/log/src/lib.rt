@@ -1,0 +1,385 @@
+// What the log program does with one record: reading its head, calling the endpoint, and the line that it prints.
+ghost use mathlib.Core.Path.{_≡_};
+ghost use mathlib.Core.Bool.{true};
+ghost use mathlib.Core.List.{List, [], _∷_};
+ghost use Prim.Native.Nat.{ℕ, _+_, _*_, _≤_, _<_};
+ghost use lib.ListN.{length};
+ghost use Rattle.lent.specs.Bytes.{put as Bytes·put};
+ghost use Rattle.machine.specs.Finish.{takeNumber};
+ghost use Rattle.machine.specs.Valid.{Valid};
+ghost use Rattle.machine.specs.declared.PollAnswer.{PollAnswer};
+ghost use Rattle.log.specs.Log.{
+  line-room,
+  isRecord,
+  headed,
+  HeadFacts,
+  decimal,
+  hexDigit,
+  hex as Log·hex,
+  numberLine,
+  packetLine,
+  pollLine,
+  withEndpoint,
+  begun,
+  ticketOf,
+  withTicket,
+  ticketKept,
+  recorded,
+  packetRecorded,
+  pollRecorded,
+  timeoutRecorded,
+  takeRecorded,
+  completeRecorded,
+  resetRecorded,
+  Told,
+};
+use machine::Endpoint;
+use machine::PollAnswer;
+use machine::TakeAnswer;
+use machine::Ticket;
+
+// The longest record's bytes, without tag and length.
+const LONGEST: usize = 4300;
+
+// A buffer that takes every packet.
+const PACKET_ROOM: usize = 68;
+
+// The log program's endpoint.
+const EID: u8 = 8;
+
+// What stands at the front of the unread bytes: no record, bytes are missing, or a whole record's tag and length.
+pub enum Head {
+    Bad,
+    More,
+    Record(u8, usize),
+}
+
+// The endpoint, and for each slot the ticket last taken there. The stores are lent beside it.
+pub struct Session {
+    pub endpoint: Endpoint,
+    pub ticket0: Ticket,
+    pub ticket1: Ticket,
+}
+
+// The session after a record, and the length of the line that it prints.
+pub struct Answer {
+    pub session: Session,
+    pub length: usize,
+}
+
+// A record with this tag may have this length.
+fn is_record(tag: u8, n: usize) -> bool
+    ensures { λ r. ⌜ r ≡ isRecord tag n ⌝ }
+{
+    match tag {
+        1 => n <= LONGEST,
+        2 => n == 0,
+        3 => n == 1,
+        4 => n == 1,
+        5 => n >= 1 && n <= LONGEST,
+        6 => n == 0,
+        _ => false,
+    }
+}
+
+fn wide(b: u8) -> usize
+    ensures { λ r. ⌜ (r ≡ b) × (r < 256) ⌝ }
+{
+    b as usize
+}
+
+// Reads the head of the record at the front of the unread bytes.
+pub fn read_head(bytes: &[u8]) -> Head
+    ensures { λ r. ⌜ r ≡ headed (now (bytes .entry)) ⌝ }
+    ensures { λ r. ⌜ HeadFacts (length (now (bytes .entry))) r ⌝ }
+{
+    if bytes.len() < 3 {
+        return Head::More;
+    }
+    let tag = bytes[0];
+    let n = wide(bytes[1]) + wide(bytes[2]) * 256;
+    if !is_record(tag, n) {
+        return Head::Bad;
+    }
+    if bytes.len() < 3 + n {
+        return Head::More;
+    }
+    Head::Record(tag, n)
+}
+
+// Writes a number in decimal and a newline, and returns the line's length.
+fn number_line(line: &mut [u8], n: u8) -> usize
+    requires { ⌜ line-room ≤ length (now line) ⌝ }
+    ensures { λ r. ⌜ (r ≡ length (numberLine n)) × (r ≤ line-room) ⌝ }
+    ensures { λ _. ⌜ now (line .exit) ≡ Bytes·put (now (line .entry)) 0 (numberLine n) ⌝ }
+{
+    if n < 10 {
+        line[0] = 48 + n;
+        line[1] = 10;
+        return 2;
+    }
+    if n < 100 {
+        line[0] = 48 + n / 10;
+        line[1] = 48 + n % 10;
+        line[2] = 10;
+        return 3;
+    }
+    line[0] = 48 + n / 100;
+    line[1] = 48 + n / 10 % 10;
+    line[2] = 48 + n % 10;
+    line[3] = 10;
+    4
+}
+
+fn hex_digit(d: u8) -> u8
+    requires { ⌜ d < 16 ⌝ }
+    ensures { λ r. ⌜ r ≡ hexDigit d ⌝ }
+{
+    if d < 10 { 48 + d } else { 87 + d }
+}
+
+// Writes the two digits of a byte.
+fn hex_byte(out: &mut [u8], at: usize, b: u8)
+    requires { ⌜ at + 2 ≤ length (now out) ⌝ }
+    ensures { λ _. ⌜ now (out .exit) ≡ Bytes·put (now (out .entry)) at (Log·hex (b ∷ [])) ⌝ }
+{
+    out[at] = hex_digit(b / 16);
+    out[at + 1] = hex_digit(b % 16);
+}
+
+// Writes all bytes in hex.
+fn hex(out: &mut [u8], at: usize, bytes: &[u8])
+    requires { ⌜ at + 2 * length (now bytes) ≤ length (now out) ⌝ }
+    ensures { λ _. ⌜ now (out .exit) ≡ Bytes·put (now (out .entry)) at (Log·hex (now (bytes .entry))) ⌝ }
+{
+    let mut i = 0;
+    let mut o = at;
+    while i < bytes.len() {
+        hex_byte(out, o, bytes[i]);
+        o += 2;
+        i += 1;
+    }
+}
+
+// Writes the line of a poll that sends, and returns the line's length.
+fn packet_line(line: &mut [u8], packet: &[u8]) -> usize
+    requires { ⌜ (line-room ≤ length (now line)) × (length (now packet) ≤ 68) ⌝ }
+    ensures { λ r. ⌜ (r ≡ length (packetLine (now (packet .entry)))) × (r ≤ line-room) ⌝ }
+    ensures { λ _. ⌜ now (line .exit) ≡ Bytes·put (now (line .entry)) 0 (packetLine (now (packet .entry))) ⌝ }
+{
+    line[0] = 49;
+    line[1] = 32;
+    hex(line, 2, packet);
+    let end = 2 + 2 * packet.len();
+    line[end] = 10;
+    end + 1
+}
+
+fn moved(session: Session, endpoint: Endpoint) -> Session
+    ensures { λ r. ⌜ r ≡ withEndpoint session endpoint ⌝ }
+{
+    Session {
+        endpoint,
+        ..session
+    }
+}
+
+// The ticket last taken from a slot.
+fn ticket_of(session: Session, slot: usize) -> Ticket
+    ensures { λ r. ⌜ r ≡ ticketOf session slot ⌝ }
+{
+    if slot == 0 {
+        session.ticket0
+    } else {
+        session.ticket1
+    }
+}
+
+fn with_ticket(session: Session, slot: usize, ticket: Ticket) -> Session
+    ensures { λ r. ⌜ r ≡ withTicket session slot ticket ⌝ }
+{
+    if slot == 0 {
+        Session {
+            ticket0: ticket,
+            ..session
+        }
+    } else {
+        Session {
+            ticket1: ticket,
+            ..session
+        }
+    }
+}
+
+// A ticket that was given is kept for its slot.
+fn ticket_kept(session: Session, slot: usize, answer: TakeAnswer) -> Session
+    ensures { λ r. ⌜ r ≡ ticketKept session slot answer ⌝ }
+{
+    match answer {
+        TakeAnswer::Refused(_) => session,
+        TakeAnswer::Given(ticket) => with_ticket(session, slot, ticket),
+    }
+}
+
+fn take_number(answer: TakeAnswer) -> u8
+    ensures { λ r. ⌜ r ≡ takeNumber answer ⌝ }
+{
+    match answer {
+        TakeAnswer::Refused(n) => n,
+        TakeAnswer::Given(_) => 0,
+    }
+}
+
+// The line of a poll, and its length.
+fn poll_line(line: &mut [u8], buffer: &[u8], answer: PollAnswer) -> usize
+    requires { ⌜ (line-room ≤ length (now line)) × (length (now buffer) ≤ 68) ⌝ }
+    requires { ⌜ ((n : ℕ) → answer ≡ PollAnswer.Packet n → n ≤ length (now buffer)) ⌝ }
+    ensures { λ r. ⌜ (r ≡ length (pollLine (now (buffer .entry)) answer)) × (r ≤ line-room) ⌝ }
+    ensures { λ _. ⌜ now (line .exit) ≡ Bytes·put (now (line .entry)) 0 (pollLine (now (buffer .entry)) answer) ⌝ }
+{
+    match answer {
+        PollAnswer::Refused(n) => number_line(line, n),
+        PollAnswer::Nothing => number_line(line, 0),
+        PollAnswer::Packet(n) => packet_line(line, &buffer[..n]),
+    }
+}
+
+// Record 1: a packet.
+fn packet_record(
+    session: Session,
+    store0: &mut [u8],
+    store1: &mut [u8],
+    packet: &[u8],
+    line: &mut [u8],
+) -> Answer
+    requires { ⌜ Valid (session .endpoint) × (line-room ≤ length (now line)) ⌝ }
+    ensures { λ r. ⌜ Told (packetRecorded session (now (store0 .entry)) (now (store1 .entry)) (now (packet .entry))) (now (line .entry)) (now (line .exit)) r (now (store0 .exit)) (now (store1 .exit)) ⌝ }
+{
+    let done = endpoint::receive(session.endpoint, store0, store1, packet);
+    let length = number_line(line, done.answer);
+    Answer {
+        session: moved(session, done.endpoint),
+        length,
+    }
+}
+
+// Record 2: a poll.
+fn poll_record(session: Session, store0: &[u8], store1: &[u8], line: &mut [u8]) -> Answer
+    requires { ⌜ Valid (session .endpoint) × (line-room ≤ length (now line)) ⌝ }
+    ensures { λ r. ⌜ Told (pollRecorded session (now (store0 .entry)) (now (store1 .entry))) (now (line .entry)) (now (line .exit)) r (now (store0 .entry)) (now (store1 .entry)) ⌝ }
+{
+    let mut buffer = [0u8; PACKET_ROOM];
+    let done = endpoint::poll(session.endpoint, store0, store1, &mut buffer);
+    let answer = done.answer;
+    let length = poll_line(line, &buffer, answer);
+    Answer {
+        session: moved(session, done.endpoint),
+        length,
+    }
+}
+
+// Record 3: a timeout.
+fn timeout_record(session: Session, slot: usize, line: &mut [u8]) -> Answer
+    requires { ⌜ Valid (session .endpoint) × (line-room ≤ length (now line)) ⌝ }
+    ensures { λ r. ⌜ ((a b : List ℕ) → Told (timeoutRecorded session a b slot) (now (line .entry)) (now (line .exit)) r a b) ⌝ }
+{
+    let done = endpoint::timeout(session.endpoint, slot);
+    let length = number_line(line, done.answer);
+    Answer {
+        session: moved(session, done.endpoint),
+        length,
+    }
+}
+
+// Record 4: a take.
+fn take_record(session: Session, slot: usize, line: &mut [u8]) -> Answer
+    requires { ⌜ Valid (session .endpoint) × (line-room ≤ length (now line)) ⌝ }
+    ensures { λ r. ⌜ ((a b : List ℕ) → Told (takeRecorded session a b slot) (now (line .entry)) (now (line .exit)) r a b) ⌝ }
+{
+    let done = endpoint::take(session.endpoint, slot);
+    let answer = done.answer;
+    let length = number_line(line, take_number(answer));
+    let anew = moved(session, done.endpoint);
+    Answer {
+        session: ticket_kept(anew, slot, answer),
+        length,
+    }
+}
+
+// Record 5: a completion, with the ticket last taken from the slot.
+fn complete_record(
+    session: Session,
+    store0: &mut [u8],
+    store1: &mut [u8],
+    slot: usize,
+    body: &[u8],
+    line: &mut [u8],
+) -> Answer
+    requires { ⌜ Valid (session .endpoint) × (line-room ≤ length (now line)) ⌝ }
+    ensures { λ r. ⌜ Told (completeRecorded session (now (store0 .entry)) (now (store1 .entry)) slot (now (body .entry))) (now (line .entry)) (now (line .exit)) r (now (store0 .exit)) (now (store1 .exit)) ⌝ }
+{
+    let ticket = ticket_of(session, slot);
+    let done = endpoint::complete(session.endpoint, store0, store1, slot, ticket, body);
+    let length = number_line(line, done.answer);
+    Answer {
+        session: moved(session, done.endpoint),
+        length,
+    }
+}
+
+// Record 6: a reset.
+fn reset_record(session: Session, line: &mut [u8]) -> Answer
+    requires { ⌜ Valid (session .endpoint) × (line-room ≤ length (now line)) ⌝ }
+    ensures { λ r. ⌜ ((a b : List ℕ) → Told (resetRecorded session a b) (now (line .entry)) (now (line .exit)) r a b) ⌝ }
+{
+    let done = endpoint::reset(session.endpoint);
+    let length = number_line(line, done.answer);
+    Answer {
+        session: moved(session, done.endpoint),
+        length,
+    }
+}
+
+// The session at the start.
+pub fn begin() -> Session
+    ensures { λ r. ⌜ (r ≡ begun) × Valid (r .endpoint) ⌝ }
+{
+    let done = endpoint::setup(EID);
+    let endpoint = done.endpoint;
+    Session {
+        endpoint,
+        ticket0: Ticket(0),
+        ticket1: Ticket(0),
+    }
+}
+
+// Does what a record says, and writes its line to the front of `line`. The bytes behind it stay.
+pub fn record(
+    session: Session,
+    store0: &mut [u8],
+    store1: &mut [u8],
+    tag: u8,
+    body: &[u8],
+    line: &mut [u8],
+) -> Answer
+    requires { ⌜ Valid (session .endpoint) × (isRecord tag (length (now body)) ≡ true) × (line-room ≤ length (now line)) ⌝ }
+    ensures { λ r. ⌜ Told (recorded session (now (store0 .entry)) (now (store1 .entry)) tag (now (body .entry))) (now (line .entry)) (now (line .exit)) r (now (store0 .exit)) (now (store1 .exit)) ⌝ }
+{
+    if tag == 1 {
+        return packet_record(session, store0, store1, body, line);
+    }
+    if tag == 2 {
+        return poll_record(session, store0, store1, line);
+    }
+    if tag == 6 {
+        return reset_record(session, line);
+    }
+    let slot = wide(body[0]);
+    if tag == 3 {
+        return timeout_record(session, slot, line);
+    }
+    if tag == 4 {
+        return take_record(session, slot, line);
+    }
+    complete_record(session, store0, store1, slot, &body[1..], line)
+}

@@ -1,0 +1,299 @@
+#!/usr/bin/env python3
+"""Writes a random log that reaches deep states of the endpoint.
+
+    python3 generate.py SEED N OUT    a log of N records, and on standard output what it reached
+
+The same seed and N give the same log. One log in four ends with a faulty record. Records are
+chosen by looking at the second program's endpoint, which runs beside: blind chance would seldom
+finish a message of 66 packets or find a slot in the state that a primitive has to meet. Values
+that a later version of the endpoint gives a meaning (opcode 4, MI opcode 01h, Pause and Resume
+with CSI 1, reserved bits) are rare.
+"""
+import random
+import sys
+
+import records
+from records import ABORT, ADMIN, FULL, GET_STATE, MI, PAUSE, PCIE, RESUME
+from reached import Run, SIZES
+
+SOURCES = (9, 9, 10, 254)
+LENGTHS = (8, 12, 19, 20, 23, 24, 64, 65, 71, 72, 127, 128, 129, 192, 250)
+LONG = (4160, 4161, 4223, 4224, 4224)
+BODIES = (*SIZES[:4], 5, 20, 55, 58, 119, 120, 121, 200)
+LONG_BODIES = (4152, 4153, 4215, 4216, 4216, 4217)
+
+class Sender:
+    """A requester's message under way: the packets that are still to be sent."""
+
+    def __init__(self, packets, slot, key):
+        self.packets, self.slot, self.key = packets, slot, key
+
+class Generator:
+    def __init__(self, seed, count):
+        self.random = random.Random(seed)
+        self.count, self.run, self.log = count, Run(), []
+        self.senders = []
+
+    def chance(self, one_in):
+        return self.random.randrange(one_in) == 0
+
+    def write(self, *found):
+        """Adds records to the log and runs them, as long as there is room."""
+        for record in found:
+            if len(self.log) == self.count:
+                return
+            self.log.append(record)
+            self.run.record(record[0], record[3:])
+
+    # What a record can be
+    def slot(self, *wanted):
+        """A slot in one of the wanted states if there is one, and mostly slot 0 or 1."""
+        found = [slot for slot in (0, 1) if self.run.endpoint.state(slot) in wanted]
+        if self.chance(60):
+            return self.random.choice((2, 3, 255))
+        return self.random.choice(found if found and not self.chance(6) else (0, 1))
+
+    def fill(self, kind):
+        """Bytes behind the header; the first is the opcode, which is not 01h for MI."""
+        found = bytearray(self.random.randbytes(self.random.choice((1, 4, 16, 64))))
+        if kind == MI and found[0] == 1 and not self.chance(50):
+            found[0] = 0
+        return bytes(found)
+
+    def key(self):
+        """A source and tag; now and then those of an assembly under way."""
+        gathering = list(self.run.endpoint.gathering)
+        if gathering and self.chance(3):
+            return self.random.choice(gathering)
+        return self.random.choice(SOURCES), self.random.randrange(8)
+
+    def start(self):
+        slot = self.slot("Idle") & 1
+        kind = self.random.choice((MI, MI, MI, ADMIN, PCIE, MI, ADMIN, 3, 5, 15))
+        length = self.random.choice(LONG if self.chance(12) else LENGTHS)
+        if self.chance(8):
+            length = self.random.randrange(8, 600)
+        message = records.command(length, slot, kind, fill=self.fill(kind),
+                                  ciap=self.chance(6), meb=self.chance(12), ror=self.chance(30))
+        if self.chance(16):
+            message = records.damaged(message)
+        if self.chance(40):
+            message += bytes(4288 - len(message))          # longer than a message can be
+        key = self.key()
+        found = records.packets(message, self.random.randrange(4), *key)
+        self.senders = [old for old in self.senders if old.key != key]
+        self.senders.append(Sender(found, slot, key))
+        self.advance(self.senders[-1])
+
+    def advance(self, sender):
+        """Sends the next packet; long messages are mostly sent on to their end."""
+        rest = len(sender.packets)
+        many = rest if self.chance(2) and rest > 8 else self.random.choice((1, 1, 2, rest))
+        if not self.chance(3 * rest + 12):
+            for _ in range(min(many, rest)):
+                self.write(sender.packets.pop(0))
+                if rest > 8 and self.chance(120):
+                    self.other()
+        else:
+            self.write(self.spoiled(sender.packets.pop(0)))
+        if not sender.packets:
+            self.senders.remove(sender)
+
+    def spoiled(self, record):
+        """The packet with one thing wrong."""
+        body = bytearray(record[3:])
+        way = self.random.randrange(9)
+        if way == 0:
+            body[3] ^= 0x10 << self.random.randrange(2)    # sequence
+        elif way == 1:
+            body[3] ^= 0x40                                # EOM
+        elif way == 2:
+            body[3] ^= 0x80                                # SOM
+        elif way == 3:
+            del body[self.random.randrange(5, len(body) + 1):]
+        elif way == 4:
+            body[self.random.randrange(4, len(body))] ^= 1 << self.random.randrange(8)
+        elif way == 5:
+            body[4] = self.random.choice((0x04, 0x85, 0))  # IC or type
+        elif way == 6:
+            body += self.random.randbytes(self.random.randrange(1, 8))
+        elif way == 7:
+            body[2] ^= 3                                   # source
+        return records.record(1, bytes(body))              # else: sent once too often or left out
+
+    def header_fault(self):
+        """A packet that fails before its payload is looked at."""
+        payload = self.random.choice((records.command(), records.control(GET_STATE), b"\x84"))
+        source, tag = self.key()
+        fields = dict(source=source, tag=tag)
+        way = self.random.randrange(5)
+        if way == 0:
+            self.write(records.record(1, self.random.randbytes(self.random.randrange(5))))
+        elif way == 1:
+            size = self.random.choice((65, 65, 66, 200, 4296))
+            self.write(records.packet(self.random.randbytes(size), **fields))
+        elif way == 2:
+            self.write(records.packet(payload, version=self.random.choice((0, 2, 15, 0x12)),
+                                      **fields))
+        elif way == 3:
+            self.write(records.packet(payload, destination=self.random.choice((0, 9, 255)),
+                                      **fields))
+        else:
+            self.write(records.packet(payload, to=0, **fields))
+
+    def stray(self, source=None, tag=None):
+        """A packet in the middle of nothing, or a start that is refused for its payload."""
+        if source is None:
+            source, tag = self.key()
+        way = self.random.randrange(7)
+        payload, marks = records.command(64), dict(sequence=self.random.randrange(4))
+        if way == 0:
+            marks.update(som=0, eom=self.chance(2))
+        elif way == 1:
+            payload = self.random.choice((b"\0", b"\x04" + payload[1:], b"\x85" + payload[1:]))
+        elif way == 2:
+            payload, marks["eom"] = payload[:self.random.randrange(1, FULL)], 0
+        elif way == 3:
+            payload = payload[:self.random.randrange(1, 8)]
+        elif way == 4:
+            payload = records.command(20, ror=1)
+        elif way == 5:
+            payload = records.control(GET_STATE) + bytes(self.random.randrange(1, 5))
+        else:
+            payload = records.damaged(records.control(self.random.randrange(4)))
+        self.write(records.packet(payload, source=source, tag=tag, **marks))
+
+    def control(self, opcode=None, slot=None):
+        if opcode is None:
+            opcode = self.random.choice((PAUSE, RESUME, RESUME, ABORT, GET_STATE, GET_STATE))
+        if slot is None:
+            slot = self.slot("Process answered", "Transmit", "Receive") & 1
+        if opcode in (PAUSE, RESUME) and not self.chance(50):
+            slot = 0
+        if self.chance(25):
+            opcode = self.random.choice((5, 6, 7, 128, 255)) if not self.chance(50) else 4
+        cpsp = self.random.choice((0, 1)) if opcode == GET_STATE else 0
+        if self.chance(80):
+            cpsp |= self.random.randrange(65536)
+        message = records.control(opcode, slot, tag=self.random.randrange(256), cpsp=cpsp,
+                                  ciap=self.chance(30), meb=self.chance(30))
+        if self.chance(80):
+            message = records.control(opcode, slot | 6)    # reserved bits of byte 1
+        source, tag = self.key() if self.chance(3) else (77, 0)
+        self.write(records.packet(message, source=source, tag=tag))
+
+    def complete(self):
+        slot = self.slot("Process taken")
+        size = self.random.choice(LONG_BODIES if self.chance(8) else BODIES)
+        self.write(records.complete(self.random.randbytes(size), slot))
+
+    def poll(self):
+        """One poll, or polls until nothing more comes."""
+        if self.chance(5):
+            for _ in range(140):
+                self.write(records.POLL)
+                if self.run.lines[-1] == "0" or self.chance(150):
+                    return
+                if self.chance(40):
+                    self.control(GET_STATE)
+        else:
+            self.write(records.POLL)
+
+    def settle(self):
+        """Lets a held endpoint go on, so that a log does not stay paused for long."""
+        if self.run.endpoint.paused and self.chance(3):
+            self.control(RESUME)
+        else:
+            self.poll()
+
+    def both_answer(self):
+        """Brings both slots to a response at the same time, for the order of sending."""
+        if self.chance(2):
+            self.control(PAUSE)
+        for slot in (0, 1):
+            self.write(records.packet(records.command(20, slot), source=9, tag=slot),
+                       records.take(slot),
+                       records.complete(self.random.randbytes(self.random.choice(BODIES)), slot))
+            if self.chance(4):
+                self.control(PAUSE)
+            if self.chance(8):
+                self.control(ABORT, slot)
+
+    def race(self):
+        """Assemblies under way, perhaps paused, and then what may end one: a new start under the
+        same source and tag, a timeout, Abort, Resume or reset."""
+        for slot in self.random.choice(((0,), (1,), (0, 1), (1, 0))):
+            self.write(records.packets(records.command(130, slot, ciap=self.chance(2)),
+                                       source=9, tag=slot)[0])
+        if self.chance(2):
+            self.control(PAUSE)
+        slot, again = self.random.randrange(2), dict(source=9, tag=self.random.randrange(2))
+        way = self.random.randrange(8)
+        if way == 0:
+            opcode = self.random.choice((ABORT, GET_STATE))
+            self.write(records.packet(records.control(opcode, slot), **again))
+        elif way == 1:
+            self.write(records.packet(records.command(20, slot), **again))
+        elif way == 2:
+            self.write(records.packets(records.command(130, slot), **again)[0])
+        elif way == 3:
+            self.stray(**again)
+        elif way == 4:
+            self.write(records.timeout(slot))
+        elif way == 5:
+            self.control(self.random.choice((ABORT, RESUME)), slot)
+        elif way == 6:
+            self.write(records.packet(bytes(60), som=0, eom=0, sequence=1, **again))
+        else:
+            self.reset()
+
+    def other(self):
+        """Anything but a command's packet."""
+        self.random.choices((self.control, self.poll, self.settle, self.complete,
+                             lambda: self.write(records.take(self.slot("Process untaken"))),
+                             lambda: self.write(records.timeout(self.slot("Receive"))),
+                             self.header_fault, self.stray, self.reset),
+                            (10, 12, 12, 14, 16, 3, 2, 5, 1))[0]()
+
+    def reset(self):
+        if self.chance(4):
+            self.write(records.RESET)
+
+    def faulty(self):
+        """A record that ends the log with `bad`."""
+        tag = self.random.randrange(1, 7)
+        return self.random.choice((
+            records.record(self.random.choice((0, 7, 255)), bytes(3)),
+            records.record(tag, bytes(4301)),
+            records.record(5) if tag == 5 else records.record(1, bytes(9))[:-1] if tag == 1 else
+            records.record(tag, bytes(2)),
+            records.record(tag, bytes(1))[:self.random.randrange(1, 3)],
+            records.record(5, bytes(4217))[:self.random.randrange(3, 4220)]))
+
+    def step(self):
+        if self.chance(40):
+            self.random.choice((self.race, self.both_answer, self.race))()
+        elif self.senders and self.chance(2):
+            self.advance(self.random.choice(self.senders))
+        elif self.chance(4):
+            self.start()
+        else:
+            self.other()
+
+def generate(seed, count):
+    """The log's bytes, and its Run."""
+    generator = Generator(seed, count)
+    fault = generator.faulty() if generator.chance(4) else None
+    generator.count -= fault is not None
+    while len(generator.log) < generator.count:
+        generator.step()
+    if fault:
+        generator.log.append(fault)
+        generator.run.fault(fault)
+    return b"".join(generator.log), generator.run
+
+if __name__ == "__main__":
+    written, run = generate(int(sys.argv[1]), int(sys.argv[2]))
+    with open(sys.argv[3], "wb") as out:
+        out.write(written)
+    print("\n".join(sorted(run.reached)))

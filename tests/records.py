@@ -1,0 +1,52 @@
+"""Builds the records of a log, the packets in them and the messages in the packets.
+
+Names follow document 01. Each function takes what is usual by default, so that a log names only
+what matters to it. The endpoint's EID is 8; requests come from EID 9 under tag 1.
+"""
+from second import sealed
+
+PAUSE, RESUME, ABORT, GET_STATE = range(4)
+MI, ADMIN, PCIE = 1, 2, 4
+FULL = 64                      # payload of every packet but a message's last
+
+def record(tag, body=b""):
+    return bytes((tag,)) + len(body).to_bytes(2, "little") + body
+
+def packet(payload, som=1, eom=1, sequence=0, source=9, tag=1, version=1, destination=8, to=1):
+    return record(1, bytes((version, destination, source,
+                            som << 7 | eom << 6 | (sequence & 3) << 4 | to << 3 | tag)) + payload)
+
+def packets(message, first=0, source=9, tag=1):
+    """The message cut into packets; the first carries the sequence number `first`."""
+    parts = [message[at:at + FULL] for at in range(0, len(message), FULL)]
+    return [packet(part, som=i == 0, eom=i == len(parts) - 1, sequence=first + i,
+                   source=source, tag=tag)
+            for i, part in enumerate(parts)]
+
+def command(length=20, slot=0, kind=MI, ciap=0, meb=0, ror=0, fill=b"\0"):
+    """A command of `length` bytes with its check, filled with the bytes of `fill` repeated."""
+    head = bytes((0x84, ror << 7 | kind << 3 | slot, ciap << 1 | meb, 0))
+    return sealed(head + (fill * length)[:length - 8])
+
+def control(opcode, slot=0, tag=0x5A, cpsp=0, ciap=0, meb=0):
+    return sealed(bytes((0x84, slot, ciap << 1 | meb, 0, opcode, tag)) + cpsp.to_bytes(2, "little"))
+
+def ask(opcode, slot=0, source=9, tag=2, **fields):
+    """A control primitive in its packet, under a tag that the commands of a log do not use."""
+    return packet(control(opcode, slot, **fields), source=source, tag=tag)
+
+def damaged(message):
+    """The message with its last byte changed, so that its check is wrong."""
+    return message[:-1] + bytes((message[-1] ^ 1,))
+
+POLL = record(2)
+RESET = record(6)
+
+def timeout(slot=0):
+    return record(3, bytes((slot,)))
+
+def take(slot=0):
+    return record(4, bytes((slot,)))
+
+def complete(body, slot=0):
+    return record(5, bytes((slot,)) + body)
