@@ -1,12 +1,11 @@
 -- What the tests of Receiving say of lengths, so that each index lies within its bytes.
 -- Assumes nothing.
-use Prim.Native.Nat.{ℕ, _-_, _≤_}
-use mathlib.Core.Path.{_≡_, sym}
+use Prim.Native.Nat.{ℕ, _≤_}
+use mathlib.Core.Path.{_≡_}
 use mathlib.Core.Bool.{true}
 use mathlib.Core.List.{List}
 use lib.Dec.{ltb}
-use lib.ListN.{length, take, drop, length-drop}
-use lib.Seq.{take-length}
+use lib.ListN.{length}
 use borrow.Author.Tests.{ltb-false}
 use Rattle.lent.proofs.Choice.{if-second}
 use Rattle.nvme_mi.specs.Check.{checkRight}
@@ -19,10 +18,6 @@ use Rattle.machine.specs.declared.Endpoint.{Endpoint}
 use Rattle.machine.specs.declared.Phase.the-variants.{Receive}
 use Rattle.machine.specs.declared.Holder.the-variants.{At}
 use Rattle.machine.proofs.Slots.{false-true, facts-at, holder-at}
-
--- a part that runs to the end
-pub rest : (k : ℕ) (s : List ℕ) → take (length s - k) (drop k s) ≡ drop k s
-rest k s = rw (sym (length-drop k s), take-length (drop k s))
 
 -- a message whose check is right has a check
 pub right-long : (s : List ℕ) → checkRight s ≡ true → 4 ≤ length s

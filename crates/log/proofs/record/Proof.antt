@@ -2,7 +2,7 @@
 -- Assumes nothing.
 use borrow.Author.Needs.{needs}
 use borrow.Author.Tests.{eq-eqb, ne-eqb}
-use Rattle.slots.proofs.Sizes.{rest}
+use Rattle.lent.proofs.Stores.{rest}
 use Rattle.log.specs.Log.{recorded}
 use Rattle.log.proofs.Laws.{has-slot}
 use Rattle.log.proofs.record.Statement.{statement}

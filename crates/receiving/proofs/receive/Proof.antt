@@ -16,7 +16,7 @@ use Rattle.machine.specs.Receive.{endAssembly, first, received}
 use Rattle.machine.specs.State.{World, world, withEndpoint}
 use Rattle.machine.specs.Wire.{unit, inward, wrongStores}
 use Rattle.slots.proofs.Kept.{kept}
-use Rattle.receiving.proofs.Sizes.{rest}
+use Rattle.lent.proofs.Stores.{rest}
 use Rattle.machine.proofs.Receiving.{packet-sized}
 use Rattle.slots.proofs.Stores.{Stays}
 use Rattle.receiving.proofs.receive.Statement.{statement}
