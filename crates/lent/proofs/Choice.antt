@@ -1,7 +1,9 @@
 -- Laws of the choice: what holds of both answers holds of the choice; a choice that is known not to be its first answer is its second.
 -- Assumes nothing.
+use Prim.Native.Nat.{ℕ}
 use mathlib.Core.Path.{_≡_, refl, sym, _∙_}
 use mathlib.Core.Bool.{Bool, true, false, not, _&&_, _||_}
+use native.Mathlib.Omega.{arith}
 use Rattle.lent.specs.Choice.{if_then_else_}
 
 pub if-ind {ℓ κ} : {A : Type ℓ} (P : A → Type κ) (b : Bool) {x y : A} → (b ≡ true → P x) → (b ≡ false → P y) → P (if b then x else y)
@@ -25,3 +27,16 @@ or-left false b e = refl
 pub or-right : (a b : Bool) → (a || b) ≡ false → b ≡ false
 or-right true b e = cc
 or-right false b e = e
+
+pub false-true : {A : Type 0} → false ≡ true → A
+false-true e = absurd (omega (arith, zero-one e))
+  where
+    zero-one : false ≡ true → _≡_ {A = ℕ} 0 1
+    zero-one e = cc
+
+pub and-both : (a b : Bool) → (a && b) ≡ true → (a ≡ true) × (b ≡ true)
+and-both true b e = (refl, e)
+and-both false b e = false-true e
+
+pub both-and : (a b : Bool) → a ≡ true → b ≡ true → (a && b) ≡ true
+both-and a b p q = rw (p, q) refl

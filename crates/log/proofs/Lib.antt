@@ -1,2 +1,2 @@
-pub mod Laws
+pub mod Polls
 pub mod Told

@@ -10,12 +10,9 @@ use Rattle.lent.proofs.Choice.{if-ind}
 use Rattle.machine.specs.Valid.{Valid}
 use Rattle.machine.specs.declared.TakeAnswer.{TakeAnswer}
 use Rattle.machine.specs.declared.TakeAnswer.the-variants.{Refused, Given}
-use Rattle.log.specs.Log.{line-room, ticketKept, recordedTo, Told}
+use Rattle.records.proofs.Laws.{Written}
+use Rattle.log.specs.Log.{ticketKept, recordedTo, Told}
 use Rattle.log.specs.declared.Session.{Session}
-
--- a line of this length was written to the front
-abbrev pub Written : List ℕ → List ℕ → List ℕ → ℕ → Type 0
-Written line before after n = ((n ≡ length line) × (n ≤ line-room)) × (after ≡ put before 0 line)
 
 pub told-by : (line : List ℕ) {before after a b : List ℕ} {n : ℕ} {s t : Session} → Written line before after n → s ≡ t → Valid (t .endpoint)
     → Told (recordedTo line t a b) before after (record { session = s; length = n }) a b

@@ -1,58 +1,28 @@
-// What the log program does with one record: reading its head, calling the endpoint, and the line that it prints.
+// What the log program does with one record: calling the endpoint, and the line that it prints.
 ghost use mathlib.Core.Path.{_≡_};
 ghost use mathlib.Core.Bool.{true};
-ghost use mathlib.Core.List.{List, [], _∷_};
-ghost use Prim.Native.Nat.{ℕ, _+_, _*_, _≤_, _<_};
+ghost use mathlib.Core.List.{List};
+ghost use Prim.Native.Nat.{ℕ, _≤_};
 ghost use lib.ListN.{length};
 ghost use Rattle.lent.specs.Bytes.{put as Bytes·put};
 ghost use Rattle.machine.specs.Finish.{takeNumber};
 ghost use Rattle.machine.specs.Valid.{Valid};
 ghost use Rattle.machine.specs.declared.PollAnswer.{PollAnswer};
-ghost use Rattle.log.specs.Log.{
-  line-room,
-  isRecord,
-  headed,
-  HeadFacts,
-  decimal,
-  hexDigit,
-  hex as Log·hex,
-  numberLine,
-  packetLine,
-  pollLine,
-  withEndpoint,
-  begun,
-  ticketOf,
-  withTicket,
-  ticketKept,
-  recorded,
-  packetRecorded,
-  pollRecorded,
-  timeoutRecorded,
-  takeRecorded,
-  completeRecorded,
-  resetRecorded,
-  Told,
-};
+ghost use Rattle.records.specs.Records.{line-room, isRecord};
+ghost use Rattle.log.specs.Log.{pollLine, withEndpoint, begun, ticketOf, withTicket, ticketKept, recorded, packetRecorded, pollRecorded, timeoutRecorded, takeRecorded, completeRecorded, resetRecorded, Told};
 use machine::Endpoint;
 use machine::PollAnswer;
 use machine::TakeAnswer;
 use machine::Ticket;
-
-// The longest record's bytes, without tag and length.
-const LONGEST: usize = 4300;
+use records::number_line;
+use records::packet_line;
+use records::wide;
 
 // A buffer that takes every packet.
 const PACKET_ROOM: usize = 68;
 
 // The log program's endpoint.
 const EID: u8 = 8;
-
-// What stands at the front of the unread bytes: no record, bytes are missing, or a whole record's tag and length.
-pub enum Head {
-    Bad,
-    More,
-    Record(u8, usize),
-}
 
 // The endpoint, and for each slot the ticket last taken there. The stores are lent beside it.
 pub struct Session {
@@ -65,114 +35,6 @@ pub struct Session {
 pub struct Answer {
     pub session: Session,
     pub length: usize,
-}
-
-// A record with this tag may have this length.
-fn is_record(tag: u8, n: usize) -> bool
-    ensures { λ r. ⌜ r ≡ isRecord tag n ⌝ }
-{
-    match tag {
-        1 => n <= LONGEST,
-        2 => n == 0,
-        3 => n == 1,
-        4 => n == 1,
-        5 => n >= 1 && n <= LONGEST,
-        6 => n == 0,
-        _ => false,
-    }
-}
-
-fn wide(b: u8) -> usize
-    ensures { λ r. ⌜ (r ≡ b) × (r < 256) ⌝ }
-{
-    b as usize
-}
-
-// Reads the head of the record at the front of the unread bytes.
-pub fn read_head(bytes: &[u8]) -> Head
-    ensures { λ r. ⌜ r ≡ headed (now (bytes .entry)) ⌝ }
-    ensures { λ r. ⌜ HeadFacts (length (now (bytes .entry))) r ⌝ }
-{
-    if bytes.len() < 3 {
-        return Head::More;
-    }
-    let tag = bytes[0];
-    let n = wide(bytes[1]) + wide(bytes[2]) * 256;
-    if !is_record(tag, n) {
-        return Head::Bad;
-    }
-    if bytes.len() < 3 + n {
-        return Head::More;
-    }
-    Head::Record(tag, n)
-}
-
-// Writes a number in decimal and a newline, and returns the line's length.
-fn number_line(line: &mut [u8], n: u8) -> usize
-    requires { ⌜ line-room ≤ length (now line) ⌝ }
-    ensures { λ r. ⌜ (r ≡ length (numberLine n)) × (r ≤ line-room) ⌝ }
-    ensures { λ _. ⌜ now (line .exit) ≡ Bytes·put (now (line .entry)) 0 (numberLine n) ⌝ }
-{
-    if n < 10 {
-        line[0] = 48 + n;
-        line[1] = 10;
-        return 2;
-    }
-    if n < 100 {
-        line[0] = 48 + n / 10;
-        line[1] = 48 + n % 10;
-        line[2] = 10;
-        return 3;
-    }
-    line[0] = 48 + n / 100;
-    line[1] = 48 + n / 10 % 10;
-    line[2] = 48 + n % 10;
-    line[3] = 10;
-    4
-}
-
-fn hex_digit(d: u8) -> u8
-    requires { ⌜ d < 16 ⌝ }
-    ensures { λ r. ⌜ r ≡ hexDigit d ⌝ }
-{
-    if d < 10 { 48 + d } else { 87 + d }
-}
-
-// Writes the two digits of a byte.
-fn hex_byte(out: &mut [u8], at: usize, b: u8)
-    requires { ⌜ at + 2 ≤ length (now out) ⌝ }
-    ensures { λ _. ⌜ now (out .exit) ≡ Bytes·put (now (out .entry)) at (Log·hex (b ∷ [])) ⌝ }
-{
-    out[at] = hex_digit(b / 16);
-    out[at + 1] = hex_digit(b % 16);
-}
-
-// Writes all bytes in hex.
-fn hex(out: &mut [u8], at: usize, bytes: &[u8])
-    requires { ⌜ at + 2 * length (now bytes) ≤ length (now out) ⌝ }
-    ensures { λ _. ⌜ now (out .exit) ≡ Bytes·put (now (out .entry)) at (Log·hex (now (bytes .entry))) ⌝ }
-{
-    let mut i = 0;
-    let mut o = at;
-    while i < bytes.len() {
-        hex_byte(out, o, bytes[i]);
-        o += 2;
-        i += 1;
-    }
-}
-
-// Writes the line of a poll that sends, and returns the line's length.
-fn packet_line(line: &mut [u8], packet: &[u8]) -> usize
-    requires { ⌜ (line-room ≤ length (now line)) × (length (now packet) ≤ 68) ⌝ }
-    ensures { λ r. ⌜ (r ≡ length (packetLine (now (packet .entry)))) × (r ≤ line-room) ⌝ }
-    ensures { λ _. ⌜ now (line .exit) ≡ Bytes·put (now (line .entry)) 0 (packetLine (now (packet .entry))) ⌝ }
-{
-    line[0] = 49;
-    line[1] = 32;
-    hex(line, 2, packet);
-    let end = 2 + 2 * packet.len();
-    line[end] = 10;
-    end + 1
 }
 
 fn moved(session: Session, endpoint: Endpoint) -> Session

@@ -10,7 +10,7 @@ use lib.ListN.{length, take}
 use lib.Seq.{take-all}
 use borrow.Author.Tests.{eq-eqb, ne-eqb, eqb-true, eqb-false, ltb-true, lt-ltb}
 use Rattle.lent.specs.Choice.{if_then_else_}
-use Rattle.lent.proofs.Choice.{if-ind}
+use Rattle.lent.proofs.Choice.{if-ind, false-true, both-and}
 use Rattle.mctp.specs.Cut.{packets}
 use Rattle.mctp.proofs.Laws.{packets-bounds, packets-most, packets-cover}
 use Rattle.machine.specs.State.{World, slotAt, storeAt, withSlot, withEndpoint, withPhase, replySent, packetSent, idled}
@@ -31,7 +31,7 @@ use Rattle.machine.specs.declared.TakeAnswer.{TakeAnswer}
 use Rattle.machine.specs.declared.TakeAnswer.the-variants.{Refused, Given}
 use Rattle.machine.specs.declared.Ready.{Ready}
 use Rattle.machine.specs.declared.Ready.the-variants.{Nothing, From}
-use Rattle.machine.proofs.Slots.{false-true, both-and, isEarly, facts-at, slot-facts, other-most}
+use Rattle.machine.proofs.Slots.{isEarly, facts-at, slot-facts, other-most}
 use Rattle.machine.proofs.Keeps.{Chosen, chosen-at}
 use Rattle.machine.proofs.Places.{Which, this, that, which, other-differs, other-back, slot-this, slot-that}
 use Rattle.machine.proofs.Fits.{Going, Fit, Steady, same, newly, released, worked, fell, Carried}

@@ -10,7 +10,7 @@ use lib.ListN.{length, take, drop}
 use borrow.Author.Tests.{eq-eqb, ne-eqb, not-false, not-true}
 use Rattle.lent.specs.Choice.{if_then_else_}
 use Rattle.lent.specs.Bytes.{put}
-use Rattle.lent.proofs.Choice.{if-ind, or-left}
+use Rattle.lent.proofs.Choice.{if-ind, or-left, false-true}
 use Rattle.lent.proofs.Stores.{take-put}
 use Rattle.nvme_mi.specs.Response.{response}
 use Rattle.nvme_mi.proofs.Laws.{length-response}
@@ -32,7 +32,7 @@ use Rattle.machine.specs.declared.Slot.{Slot}
 use Rattle.machine.specs.declared.Endpoint.{Endpoint}
 use Rattle.machine.specs.declared.Done.{Done}
 use Rattle.machine.specs.declared.TakeDone.{TakeDone}
-use Rattle.machine.proofs.Slots.{isEarly, false-true, other-most}
+use Rattle.machine.proofs.Slots.{isEarly, other-most}
 use Rattle.machine.proofs.Keeps.{slot-most}
 use Rattle.machine.proofs.Places.{Which, this, that, which, other-differs, slot-this, slot-that, store-this, store-that}
 use Rattle.machine.proofs.Fits.{Asked, Fit, stayed, worked, Carried, quiet-other, carried-same, carried-ended, carried-cut, carried-settled, settled-begun, settled-process, response-is}

@@ -11,6 +11,7 @@ use lib.ListN.{length, take}
 use borrow.Author.Tests.{ne-eqb}
 use Rattle.lent.specs.Choice.{if_then_else_}
 use Rattle.lent.specs.Bytes.{byteAt, isSet}
+use Rattle.lent.proofs.Choice.{false-true}
 use Rattle.nvme_mi.specs.Message.{messageHeader, isKnown, commandFault}
 use Rattle.nvme_mi.specs.Response.{response, faultBody}
 use Rattle.nvme_mi.specs.Check.{withCheck}
@@ -27,7 +28,7 @@ use Rattle.machine.specs.declared.Response.{Response}
 use Rattle.machine.specs.declared.Phase.{Phase}
 use Rattle.machine.specs.declared.Phase.the-variants.{Idle, Receive, Process, Answered, Transmit}
 use Rattle.machine.specs.declared.Slot.{Slot}
-use Rattle.machine.proofs.Slots.{isEarly, false-true}
+use Rattle.machine.proofs.Slots.{isEarly}
 
 -- ---- the fit
 

@@ -7,7 +7,7 @@ use mathlib.Core.List.{List, [], _∷_, _++_}
 use native.Mathlib.Omega.{arith}
 use lib.Dec.{ltb}
 use lib.ListN.{length}
-use Rattle.lent.proofs.Choice.{if-ind}
+use Rattle.lent.proofs.Choice.{if-ind, false-true}
 use Rattle.machine.specs.State.{World, slotAt, storeAt, fresh, ticket}
 use Rattle.machine.specs.Wire.{store-size}
 use Rattle.machine.specs.Finish.{wasSetUp}
@@ -16,7 +16,6 @@ use Rattle.machine.specs.Calls.{Call, receive, take!, read, complete, po
 use Rattle.machine.specs.History.{Log, History, logAfter, next, run, start}
 use Rattle.machine.specs.declared.Slot.{Slot}
 use Rattle.machine.specs.declared.Done.{Done}
-use Rattle.machine.proofs.Slots.{false-true}
 use Rattle.machine.proofs.Keeps.{begin-valid, step-sound}
 use Rattle.machine.proofs.Fits.{Fit, Entry, Carried}
 use Rattle.machine.proofs.Received.{Carries, received-carries}

@@ -7,6 +7,7 @@ use mathlib.Core.List.{List, [], _∷_}
 use lib.Dec.{eqb, leb, ltb}
 use lib.ListN.{length}
 use borrow.Author.Tests.{ltb-true, leb-true, eqb-true, lt-ltb, le-leb, eq-eqb, not-true}
+use Rattle.lent.proofs.Choice.{false-true, and-both, both-and}
 use Rattle.machine.specs.State.{isIdle}
 use Rattle.machine.specs.Wire.{unit, store-size, smallest}
 use Rattle.machine.specs.Poll.{otherSlot}
@@ -15,7 +16,6 @@ use Rattle.machine.specs.declared.Phase.{Phase}
 use Rattle.machine.specs.declared.Phase.the-variants.{Idle, Receive, Process, Answered, Transmit}
 use Rattle.machine.specs.declared.Slot.{Slot}
 use Rattle.machine.specs.declared.Endpoint.{Endpoint}
-use Rattle.machine.proofs.Slots.{false-true, and-both, both-and}
 
 within : (low high n : ℕ) → between low high n ≡ true → (low ≤ n) × (n ≤ high)
 within low high n h = let k = and-both (leb low n) (leb n high) h in (leb-true low n (k .0), leb-true n high (k .1))

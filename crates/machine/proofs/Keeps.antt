@@ -11,7 +11,7 @@ use lib.ListN.{length, take, getD, set}
 use borrow.Author.Tests.{ltb-false, ltb-true, eqb-true, eqb-false, not-true, not-false}
 use Rattle.lent.specs.Choice.{if_then_else_}
 use Rattle.lent.specs.Bytes.{put}
-use Rattle.lent.proofs.Choice.{if-ind, if-second, or-left, or-right}
+use Rattle.lent.proofs.Choice.{if-ind, if-second, or-left, or-right, false-true}
 use Rattle.lent.proofs.Stores.{length-put}
 use Rattle.mctp.specs.Header.{fields, payloadOf}
 use Rattle.mctp.specs.declared.Header.{Header}
@@ -47,7 +47,7 @@ use Rattle.machine.specs.declared.TakeDone.{TakeDone}
 use Rattle.machine.specs.declared.Acted.{Acted}
 use Rattle.machine.specs.declared.Ready.{Ready}
 use Rattle.machine.specs.declared.Ready.the-variants.{Nothing, From}
-use Rattle.machine.proofs.Slots.{other-most, false-true, slot-facts, facts-at, apart-left, apart-new-left, apart-new-right}
+use Rattle.machine.proofs.Slots.{other-most, slot-facts, facts-at, apart-left, apart-new-left, apart-new-right}
 use Rattle.machine.proofs.Receiving.{Joining, filled, grown, Walk, csi-most, walked}
 
 -- ---- flags

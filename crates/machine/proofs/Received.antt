@@ -11,7 +11,7 @@ use lib.Seq.{getD-drop, length-take-le}
 use borrow.Author.Tests.{eq-eqb, ne-eqb, eqb-true, ltb-false, not-false}
 use Rattle.lent.specs.Choice.{if_then_else_}
 use Rattle.lent.specs.Bytes.{byteAt, isSet, put}
-use Rattle.lent.proofs.Choice.{if-ind, if-second}
+use Rattle.lent.proofs.Choice.{if-ind, if-second, false-true}
 use Rattle.lent.proofs.Stores.{length-put, take-put}
 use Rattle.mctp.specs.Header.{fields, payloadOf, readHeader}
 use Rattle.mctp.specs.declared.Header.{Header}
@@ -38,7 +38,7 @@ use Rattle.machine.specs.declared.Phase.the-variants.{Idle, Receive, Pro
 use Rattle.machine.specs.declared.Slot.{Slot}
 use Rattle.machine.specs.declared.Endpoint.{Endpoint}
 use Rattle.machine.specs.declared.Acted.{Acted}
-use Rattle.machine.proofs.Slots.{isEarly, false-true, facts-at, from-same, other-most}
+use Rattle.machine.proofs.Slots.{isEarly, facts-at, from-same, other-most}
 use Rattle.machine.proofs.Receiving.{Origin, opens, goes-on, Joining, filled, grown, whole, Controls, Ground, in-table, of-no-slot, Break, in-sequence, in-size, in-total, Walk, read-facts, csi-most, walked}
 use Rattle.machine.proofs.Keeps.{received-sound, sound-endpoint, sound-store, store-at, kept-quiet, pause-valid, end-valid}
 use Rattle.machine.proofs.Places.{Which, this, that, which, other-differs, slot-this, slot-that, slot-both, store-this, store-that, take-joined}

@@ -11,7 +11,7 @@ use lib.ListN.{length, take, drop, length-drop}
 use borrow.Author.Tests.{ltb-false, ltb-true, eqb-true, not-true, not-false}
 use Rattle.lent.specs.Choice.{if_then_else_}
 use Rattle.lent.specs.Bytes.{byteAt, isSet, put}
-use Rattle.lent.proofs.Choice.{if-ind, if-second, or-left, or-right}
+use Rattle.lent.proofs.Choice.{if-ind, if-second, or-left, or-right, false-true}
 use Rattle.mctp.specs.Header.{readHeader, fields, same, payloadOf}
 use Rattle.mctp.specs.Gather.{isCut, joinRefusal, no-assembly, not-full}
 use Rattle.mctp.specs.declared.Header.{Header}
@@ -35,7 +35,7 @@ use Rattle.machine.specs.declared.Phase.the-variants.{Receive}
 use Rattle.machine.specs.declared.Endpoint.{Endpoint}
 use Rattle.machine.specs.declared.Holder.{Holder}
 use Rattle.machine.specs.declared.Holder.the-variants.{Nowhere, At}
-use Rattle.machine.proofs.Slots.{false-true, isEarly, idle-early, facts-at, alone-at, from-same, Holds, holder-at, ended-at, other-most}
+use Rattle.machine.proofs.Slots.{isEarly, idle-early, facts-at, alone-at, from-same, Holds, holder-at, ended-at, other-most}
 
 -- ---- what the tests say of a payload
 

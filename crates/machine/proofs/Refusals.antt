@@ -9,7 +9,7 @@ use lib.Dec.{eqb, ltb}
 use lib.ListN.{length}
 use borrow.Author.Tests.{eq-eqb, ne-eqb, eqb-false, ltb-true}
 use Rattle.lent.specs.Choice.{if_then_else_}
-use Rattle.lent.proofs.Choice.{if-ind}
+use Rattle.lent.proofs.Choice.{if-ind, false-true, and-both}
 use Rattle.mctp.specs.Header.{fields}
 use Rattle.machine.specs.State.{World, Outcome, outcome, slotAt, withEndpoint}
 use Rattle.machine.specs.Wire.{packet-room, wrongStores}
@@ -31,7 +31,6 @@ use Rattle.machine.specs.declared.Done.{Done}
 use Rattle.machine.specs.declared.TakeDone.{TakeDone}
 use Rattle.machine.specs.declared.Ready.{Ready}
 use Rattle.machine.specs.declared.Ready.the-variants.{Nothing, From}
-use Rattle.machine.proofs.Slots.{false-true, and-both}
 use Rattle.machine.proofs.Receiving.{Joining, filled, Ground, in-table, of-no-slot, Break, in-sequence, in-size, in-total, Walk, walked}
 use Rattle.machine.proofs.Keeps.{sound-endpoint, sound-of, end-valid}
 

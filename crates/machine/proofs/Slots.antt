@@ -9,7 +9,7 @@ use lib.Dec.{eqb}
 use lib.ListN.{length, getD, set}
 use borrow.Author.Tests.{eqb-true, eq-eqb}
 use Rattle.lent.specs.Choice.{if_then_else_}
-use Rattle.lent.proofs.Choice.{if-ind}
+use Rattle.lent.proofs.Choice.{if-ind, and-both}
 use Rattle.machine.specs.State.{fresh, ticket, idled, slotAt, withSlot, withSlots, isIdle, storeAt, withStore, withEndpoint, World}
 use Rattle.machine.specs.Wire.{unit, store-size, smallest}
 use Rattle.machine.specs.Receive.{isFrom, gathers, holder, holderIn, endAssembly, endedSlot}
@@ -45,19 +45,6 @@ pub facts-at : {e : Endpoint} (i : ℕ) → i ≤ 1 → Valid e → PhaseFacts (
 facts-at i h v = slot-facts i h (v .slots-valid) .phase-facts
 
 -- ---- assemblies are told apart by source and tag
-
-pub false-true : {A : Type 0} → false ≡ true → A
-false-true e = absurd (omega (arith, zero-one e))
-  where
-    zero-one : false ≡ true → _≡_ {A = ℕ} 0 1
-    zero-one e = cc
-
-pub and-both : (a b : Bool) → (a && b) ≡ true → (a ≡ true) × (b ≡ true)
-and-both true b e = (refl, e)
-and-both false b e = false-true e
-
-pub both-and : (a b : Bool) → a ≡ true → b ≡ true → (a && b) ≡ true
-both-and a b p q = rw (p, q) refl
 
 pub from-same : (source tag : ℕ) (a : Assembly) → isFrom source tag a ≡ true → (a .source ≡ source) × (a .tag ≡ tag)
 from-same source tag a h =

@@ -10,7 +10,7 @@ use lib.Dec.{eqb, leb, ltb}
 use lib.ListN.{length, take}
 use borrow.Author.Tests.{eq-eqb, ne-eqb, eqb-true, ltb-true, not-false, not-true}
 use Rattle.lent.specs.Choice.{if_then_else_}
-use Rattle.lent.proofs.Choice.{if-ind, if-second}
+use Rattle.lent.proofs.Choice.{if-ind, if-second, false-true, and-both}
 use Rattle.mctp.specs.Cut.{packet}
 use Rattle.machine.specs.State.{World, outcome, slotAt, storeAt, withSlot}
 use Rattle.machine.specs.Wire.{unit, wrongStores}
@@ -31,7 +31,7 @@ use Rattle.machine.specs.declared.Slot.{Slot}
 use Rattle.machine.specs.declared.TakeAnswer.the-variants.{Refused, Given}
 use Rattle.machine.specs.declared.TakeDone.{TakeDone}
 use Rattle.machine.specs.declared.Ready.the-variants.{From}
-use Rattle.machine.proofs.Slots.{false-true, and-both, facts-at, other-most}
+use Rattle.machine.proofs.Slots.{facts-at, other-most}
 use Rattle.machine.proofs.Receiving.{right-stores}
 use Rattle.machine.proofs.Keeps.{slot-most, Chosen, chosen-at}
 use Rattle.machine.proofs.Places.{Which, this, that, which, slot-this, slot-that, other-back}

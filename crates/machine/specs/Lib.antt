@@ -8,8 +8,6 @@ pub mod Finish
 pub mod Poll
 pub mod Valid
 pub mod Calls
-pub mod Examples
 pub mod History
 pub mod Demands
 pub mod Refusals
-pub mod Runs

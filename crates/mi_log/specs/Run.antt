@@ -2,7 +2,7 @@
 -- Assumes nothing.
 use Prim.Native.Nat.{ℕ, _+_, _≤_}
 use mathlib.Core.Path.{_≡_}
-use Rattle.log.specs.Log.{line-room}
+use Rattle.records.specs.Records.{line-room}
 use Rattle.machine.specs.Valid.{Valid}
 use Rattle.mi_log.specs.declared.Run.{Run}
 

@@ -4,12 +4,12 @@ ghost use mathlib.Core.Path.{_≡_};
 ghost use mathlib.Core.Bool.{true};
 ghost use Prim.Native.Nat.{_+_, _≤_};
 ghost use lib.ListN.{length};
-ghost use Rattle.log.specs.Log.{line-room, isRecord};
+ghost use Rattle.records.specs.Records.{line-room, isRecord};
 ghost use Rattle.machine.specs.Valid.{Valid};
 ghost use Rattle.mi_log.specs.Run.{Within, Roomy};
 use log::Answer;
-use log::Head;
 use log::Session;
+use records::Head;
 
 // Room for every line.
 const LINE_ROOM: usize = 139;
@@ -155,7 +155,7 @@ fn turn(buf: &mut [u8], out: &mut [u8], store0: &mut [u8], store1: &mut [u8], r:
 {
     let at = r.at;
     let end = r.end;
-    let head = log::read_head(&buf[at..end]);
+    let head = records::read_head(&buf[at..end]);
     match head {
         Head::Bad => bad(out, r),
         Head::More => more(buf, out, r),

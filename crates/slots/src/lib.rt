@@ -1,4 +1,118 @@
-// The steps that the calls are made of: on a slot, on the endpoint, on a slot's store. Each is one definition of `machine`.
-pub mod control;
-pub mod process;
-pub mod state;
+// Small steps on a slot, on the endpoint and on the lent stores that several calls share.
+ghost use mathlib.Core.Path.{_≡_};
+ghost use mathlib.Core.Bool.{not, _||_};
+ghost use Prim.Native.Nat.{_<_};
+ghost use lib.Dec.{eqb};
+ghost use Rattle.lent.specs.Choice.{if_then_else_};
+ghost use Rattle.machine.specs.State.{slotAt, isIdle, idled as State·idled, settled as State·settled, ended as State·ended};
+ghost use Rattle.machine.specs.Poll.{otherSlot};
+ghost use Rattle.machine.specs.Wire.{store-size};
+ghost use Rattle.machine.specs.Control.{pausedSlot, pause as Control·pause};
+use machine::Done;
+use machine::Endpoint;
+use machine::Phase;
+use machine::Response;
+use machine::Slot;
+
+// The largest payload of a packet.
+pub const UNIT: usize = 64;
+
+// The length of a slot's store, and of the longest message.
+pub const STORE_SIZE: usize = 4224;
+
+// One of the lent stores, of n0 and n1 bytes, has another length.
+pub fn wrong_stores(n0: usize, n1: usize) -> bool
+    ensures { λ r. ⌜ r ≡ (not (eqb n0 store-size) || not (eqb n1 store-size)) ⌝ }
+{
+    n0 != STORE_SIZE || n1 != STORE_SIZE
+}
+
+pub fn other_slot(i: usize) -> usize
+    ensures { λ r. ⌜ r ≡ otherSlot i ⌝ }
+{
+    if i == 0 { 1 } else { 0 }
+}
+
+// The phase of slot i.
+pub fn phase_of(endpoint: Endpoint, i: usize) -> Phase
+    requires { ⌜ i < 2 ⌝ }
+    ensures { λ r. ⌜ r ≡ slotAt endpoint i .phase ⌝ }
+{
+    let slot = endpoint.slots[i];
+    let phase = slot.phase;
+    phase
+}
+
+// The store of slot i, chosen by its number.
+pub fn store_of<'a>(store0: &'a [u8], store1: &'a [u8], i: usize) -> &'a [u8]
+    ensures { λ r. ⌜ now r ≡ (if eqb i 0 then now (store0 .entry) else now (store1 .entry)) ⌝ }
+{
+    if i == 0 { store0 } else { store1 }
+}
+
+pub fn is_idle(phase: Phase) -> bool
+    ensures { λ r. ⌜ r ≡ isIdle phase ⌝ }
+{
+    match phase {
+        Phase::Idle => true,
+        Phase::Receive(_) => false,
+        Phase::Process(_) => false,
+        Phase::Answered(_) => false,
+        Phase::Transmit(_) => false,
+    }
+}
+
+// A slot that enters Idle loses its pause flag.
+pub fn idled(slot: Slot) -> Slot
+    ensures { λ r. ⌜ r ≡ State·idled slot ⌝ }
+{
+    Slot {
+        paused: false,
+        phase: Phase::Idle,
+        ..slot
+    }
+}
+
+// A response that is there goes to Transmit at once, unless the slot's own flag is set.
+pub fn settled(paused: bool, response: Response) -> Phase
+    ensures { λ r. ⌜ r ≡ State·settled paused response ⌝ }
+{
+    if paused {
+        Phase::Answered(response)
+    } else {
+        Phase::Transmit(response)
+    }
+}
+
+// What a call answers, and the state that it leaves.
+pub fn ended(answer: u8, endpoint: Endpoint) -> Done
+    ensures { λ r. ⌜ r ≡ State·ended answer endpoint ⌝ }
+{
+    Done { answer, endpoint }
+}
+
+// Sets the flag of a slot that is not Idle.
+fn paused_slot(slot: Slot) -> Slot
+    ensures { λ r. ⌜ r ≡ pausedSlot slot ⌝ }
+{
+    let phase = slot.phase;
+    if is_idle(phase) {
+        slot
+    } else {
+        Slot {
+            paused: true,
+            ..slot
+        }
+    }
+}
+
+// Pause: sets the flag of each slot that is not Idle.
+pub fn pause(endpoint: Endpoint) -> Endpoint
+    ensures { λ r. ⌜ r ≡ Control·pause endpoint ⌝ }
+{
+    let slots = [
+        paused_slot(endpoint.slots[0]),
+        paused_slot(endpoint.slots[1]),
+    ];
+    Endpoint { slots, ..endpoint }
+}

@@ -4,7 +4,8 @@ use borrow.Author.Needs.{needs}
 use mathlib.Core.Path.{_∙_}
 use Rattle.machine.specs.Finish.{takeNumber}
 use Rattle.log.proofs.Told.{told-by, kept-valid}
-use Rattle.log.specs.Log.{numberLine, withEndpoint}
+use Rattle.records.specs.Records.{numberLine}
+use Rattle.log.specs.Log.{withEndpoint}
 use Rattle.log.proofs.take_record.Statement.{statement}
 use Rattle.log.proofs.take_record.Tie as tie
 

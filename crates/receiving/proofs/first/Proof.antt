@@ -1,4 +1,4 @@
--- `endpoint::receiving::first` meets its contract: each row by its tests. Behind 16 and 17 the payload is a whole unit or has eight bytes,
+-- `receiving::first` meets its contract: each row by its tests. Behind 16 and 17 the payload is a whole unit or has eight bytes,
 -- so that it holds a message header.
 -- Assumes nothing.
 use mathlib.Core.Bool.{false, _&&_}

@@ -1,4 +1,4 @@
--- `endpoint::receiving::first_control` meets its contract: each row by its tests; behind 18 the message has twelve bytes.
+-- `receiving::first_control` meets its contract: each row by its tests; behind 18 the message has twelve bytes.
 -- Assumes nothing.
 use mathlib.Core.Bool.{not}
 use mathlib.Core.Logic.{⊎-elim}

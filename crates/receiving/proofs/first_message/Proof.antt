@@ -1,4 +1,4 @@
--- `endpoint::receiving::first_message` meets its contract: each row by its test.
+-- `receiving::first_message` meets its contract: each row by its test.
 -- Assumes nothing.
 use borrow.Author.Needs.{needs}
 use borrow.Author.Tests.{eq-eqb, ne-eqb}

@@ -1,4 +1,4 @@
--- `endpoint::receiving::receive` meets its contract: each way through it is a row of `received`, and the state keeps the invariant, as
+-- `receiving::receive` meets its contract: each way through it is a row of `received`, and the state keeps the invariant, as
 -- `received` does.
 -- Assumes nothing.
 use Prim.Native.Nat.{ℕ, _≤_}

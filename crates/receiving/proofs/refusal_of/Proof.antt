@@ -1,4 +1,4 @@
--- `endpoint::receiving::refusal_of` meets its contract: the two variants are never equal.
+-- `receiving::refusal_of` meets its contract: the two variants are never equal.
 -- Assumes nothing.
 use mathlib.Core.Path.{sym, _∙_}
 use borrow.Author.Needs.{needs}

@@ -1,0 +1,53 @@
+-- `finishing::timeout` meets its contract: each way out has the tests that lead to its row of `timedOut`, and that keeps the invariant.
+-- Assumes nothing.
+use Prim.Native.Nat.{ℕ}
+use mathlib.Core.Path.{_≡_}
+use mathlib.Core.Logic.{⊎-elim}
+use borrow.Author.Tests.{lt-ltb, le-ltb}
+use borrow.Author.Needs.{needs}
+use Rattle.machine.specs.Finish.{timedOut}
+use Rattle.machine.specs.Valid.{Valid}
+use Rattle.machine.specs.declared.Endpoint.{Endpoint}
+use Rattle.machine.specs.declared.Done.{Done}
+use Rattle.machine.proofs.Keeps.{timeout-valid}
+use Rattle.slots.proofs.Kept.{kept}
+use Rattle.finishing.proofs.timeout.Statement.{statement}
+use Rattle.finishing.proofs.timeout.Tie as tie
+
+done : (e : Endpoint) (i : ℕ) {d : Done} → Valid e → d ≡ timedOut e i → (d ≡ timedOut e i) × Valid (d .endpoint)
+done e i v h = kept (λ (d : Done). Valid (d .endpoint)) (timeout-valid e i v) h
+
+returns : tie.Need-returns
+unfolding timedOut
+returns c =
+    let s = c .before in
+    done (s .args .t1) (s .args .slot) (s .pre) (rw (le-ltb _ _ (c .if1 .taken)))
+
+returns-2 : tie.Need-returns-2
+unfolding timedOut
+returns-2 c =
+    let k = c .before in
+    let d = k .before .before in
+    let s = d .before in
+    let slot = lt-ltb _ _ (d .if1 .left) in
+    done (s .args .t1) (s .args .slot) (s .pre)
+    (⊎-elim
+    (λ other. rw (slot, ← k .is-receive .ensures, other .taken))
+    (λ paused. rw (slot, ← k .is-receive .ensures, paused .0 .left, paused .1 .taken))
+    (c .if2 .came))
+
+returns-3 : tie.Need-returns-3
+unfolding timedOut
+returns-3 c =
+    let q = c .before .before in
+    let k = q .before in
+    let d = k .before .before in
+    let s = d .before in
+    done (s .args .t1) (s .args .slot) (s .pre)
+    (rw (c .idled .ensures, lt-ltb _ _ (d .if1 .left), ← k .is-receive .ensures, q .if2 .left, c .before .if3 .left))
+
+pub timeout-spec : {M : Type 1} → statement M
+timeout-spec =
+    tie.close
+    (tie.spec returns (λ c. search needs) (λ c. search needs) (λ c κs. search needs) returns-2 (λ c κs. search needs) (λ c. search needs)
+    (λ c. search needs) returns-3)

@@ -1,0 +1,53 @@
+-- `gathering::later` meets its contract: the slot that gathers under this source and tag is one of the two, and has room for
+-- what joins.
+-- Assumes nothing.
+use Prim.Native.Nat.{_≤_}
+use mathlib.Core.Path.{sym, _∙_}
+use native.Mathlib.Omega.{arith}
+use lib.ListN.{length}
+use borrow.Author.Needs.{needs}
+use Rattle.machine.specs.Receive.{later}
+use Rattle.machine.specs.Wire.{store-size}
+use Rattle.gathering.proofs.Sizes.{held}
+use Rattle.machine.proofs.Receiving.{joins}
+use Rattle.gathering.proofs.later.Statement.{statement}
+use Rattle.gathering.proofs.later.Tie as tie
+
+found-at : (f : tie.After-found) → (f .found .given .0 .0 ≤ 1) × (f .found .given .0 .1 .0 .length ≤ store-size)
+found-at f =
+    let holder = f .before .before in
+    let s = holder .before .before .before .before in
+    held (s .args .endpoint) (s .pre .2) (s .args .header .source) (s .args .header .tag) (sym (holder .holder .ensures) ∙ f .found .given .1)
+
+returns : tie.Need-returns
+unfolding later
+returns c = rw (sym (c .before .before .before .holder .ensures) ∙ c .before .enum-told .given .1) (c .refused .ensures _ _)
+
+join-refusal-requires : tie.Need-join-refusal-requires
+join-refusal-requires c κs = omega (arith, found-at (c .before) .1)
+
+later-at-requires : tie.Need-later-at-requires
+later-at-requires c κs =
+    let join = c .before .before in
+    let found = join .before .before in
+    let a = found .before .before .before .before .before .before .args in
+    let assembly = found .found .given .0 .1 .0 in (
+      search needs,
+      search needs,
+      omega (arith, found-at found .0),
+      λ e. joins (assembly .sequence) (assembly .length) (length (a .payload .now)) (a .header) (sym (join .join-refusal .ensures) ∙ e) .fits,
+    )
+
+returns-2 : tie.Need-returns-2
+unfolding later
+returns-2 c =
+    let call = c .before .before .before .before in
+    let join = call .before .before .before in
+    let found = join .before .before in
+    call .later-at .ensures ∙ rw (join .join-refusal .ensures, sym (found .before .before .holder .ensures) ∙ found .found .given .1)
+
+pub later-spec : {M : Type 1} → statement M
+later-spec =
+    tie.close
+    (tie.spec (λ c κs. search needs) (λ c. search needs) (λ c. search needs) (λ c κs. search needs) returns join-refusal-requires
+    later-at-requires (λ c. search needs) (λ c. search needs) returns-2)

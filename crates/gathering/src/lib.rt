@@ -1,0 +1,173 @@
+// Gathering a command in its slot: its first packet, a later one, and the whole.
+ghost use mathlib.Core.Path.{_≡_};
+ghost use Prim.Native.Nat.{_+_, _≤_, _<_};
+ghost use lib.ListN.{length, take};
+ghost use Rattle.machine.specs.State.{world, outcome, storeAt};
+ghost use Rattle.machine.specs.Wire.{unit, store-size};
+ghost use Rattle.machine.specs.Valid.{Valid};
+ghost use Rattle.machine.specs.Receive.{checked as Receive·checked, joined as Receive·joined, gathered as Receive·gathered, firstCommand, laterAt, later as Receive·later};
+use assembly::dropped;
+use assembly::holder;
+use machine::Assembly;
+use machine::Done;
+use machine::Endpoint;
+use machine::Holder;
+use machine::Phase;
+use machine::Slot;
+use mctp::Header;
+use process::entered;
+use refusing::refused;
+use refusing::refused_busy;
+use slots::STORE_SIZE;
+use slots::UNIT;
+use slots::ended;
+use slots::is_idle;
+use slots::phase_of;
+use slots::store_of;
+
+// A command that is whole: with a wrong check it is refused and its slot goes to Idle, else the slot enters Process.
+fn checked(
+    endpoint: Endpoint,
+    store0: &mut [u8],
+    store1: &mut [u8],
+    slot: usize,
+    assembly: Assembly,
+) -> Done
+    requires { ⌜ (length (now store0) ≡ store-size) × (length (now store1) ≡ store-size) × (slot < 2) × (assembly .length ≤ store-size) ⌝ }
+    ensures { λ r. ⌜ outcome (r .answer) (world (r .endpoint) (now (store0 .exit)) (now (store1 .exit))) ≡ Receive·checked (world endpoint (now (store0 .entry)) (now (store1 .entry))) slot assembly (take (assembly .length) (storeAt (world endpoint (now (store0 .entry)) (now (store1 .entry))) slot)) ⌝ }
+{
+    let n = assembly.length;
+    let message = &store_of(store0, store1, slot)[..n];
+    if !nvme_mi::check_right(message) {
+        let e = dropped(endpoint, slot);
+        return refused(e, 19);
+    }
+    let message_header = nvme_mi::read_message_header(message);
+    let e = entered(endpoint, store0, store1, slot, assembly, message_header);
+    ended(1, e)
+}
+
+// The assembly with this packet, whose bytes are in the store.
+fn joined(
+    endpoint: Endpoint,
+    store0: &mut [u8],
+    store1: &mut [u8],
+    slot: usize,
+    assembly: Assembly,
+    eom: bool,
+) -> Done
+    requires { ⌜ (length (now store0) ≡ store-size) × (length (now store1) ≡ store-size) × (slot < 2) × (assembly .length ≤ store-size) ⌝ }
+    ensures { λ r. ⌜ outcome (r .answer) (world (r .endpoint) (now (store0 .exit)) (now (store1 .exit))) ≡ Receive·joined (world endpoint (now (store0 .entry)) (now (store1 .entry))) slot assembly eom ⌝ }
+{
+    if eom {
+        return checked(endpoint, store0, store1, slot, assembly);
+    }
+    let s = endpoint.slots[slot];
+    let mut e = endpoint;
+    e.slots[slot] = Slot {
+        phase: Phase::Receive(assembly),
+        ..s
+    };
+    ended(0, e)
+}
+
+// A command's packet that is not refused: its payload goes behind the bytes so far.
+fn gathered(
+    endpoint: Endpoint,
+    store0: &mut [u8],
+    store1: &mut [u8],
+    slot: usize,
+    at: usize,
+    header: Header,
+    payload: &[u8],
+) -> Done
+    requires { ⌜ (length (now store0) ≡ store-size) × (length (now store1) ≡ store-size) × (slot < 2) × (at + length (now payload) ≤ store-size) ⌝ }
+    ensures { λ r. ⌜ outcome (r .answer) (world (r .endpoint) (now (store0 .exit)) (now (store1 .exit))) ≡ Receive·gathered (world endpoint (now (store0 .entry)) (now (store1 .entry))) slot at header (now (payload .entry)) ⌝ }
+{
+    if slot == 0 {
+        lent::put(store0, at, payload);
+    } else {
+        lent::put(store1, at, payload);
+    }
+    let assembly = Assembly {
+        source: header.source,
+        tag: header.tag,
+        sequence: header.sequence,
+        length: at + payload.len(),
+    };
+    joined(endpoint, store0, store1, slot, assembly, header.eom)
+}
+
+// A command's first packet.
+pub fn first_command(
+    endpoint: Endpoint,
+    store0: &mut [u8],
+    store1: &mut [u8],
+    header: Header,
+    slot: usize,
+    message: &[u8],
+) -> Done
+    requires { ⌜ (length (now store0) ≡ store-size) × (length (now store1) ≡ store-size) × (slot < 2) × (length (now message) ≤ unit) ⌝ }
+    ensures { λ r. ⌜ outcome (r .answer) (world (r .endpoint) (now (store0 .exit)) (now (store1 .exit))) ≡ firstCommand (world endpoint (now (store0 .entry)) (now (store1 .entry))) header slot (now (message .entry)) ⌝ }
+{
+    if !is_idle(phase_of(endpoint, slot)) {
+        return refused_busy(endpoint, slot);
+    }
+    gathered(endpoint, store0, store1, slot, 0, header, message)
+}
+
+// SOM 0, for the slot that gathers under this source and tag: 22, 16 and 23 send it to Idle.
+fn later_at(
+    endpoint: Endpoint,
+    store0: &mut [u8],
+    store1: &mut [u8],
+    slot: usize,
+    assembly: Assembly,
+    header: Header,
+    payload: &[u8],
+    refusal: u8,
+) -> Done
+    requires { ⌜ (length (now store0) ≡ store-size) × (length (now store1) ≡ store-size) × (slot < 2) × (refusal ≡ 0 → assembly .length + length (now payload) ≤ store-size) ⌝ }
+    ensures { λ r. ⌜ outcome (r .answer) (world (r .endpoint) (now (store0 .exit)) (now (store1 .exit))) ≡ laterAt (world endpoint (now (store0 .entry)) (now (store1 .entry))) slot assembly header (now (payload .entry)) refusal ⌝ }
+{
+    if refusal == 0 {
+        let at = assembly.length;
+        return gathered(endpoint, store0, store1, slot, at, header, payload);
+    }
+    refused(dropped(endpoint, slot), refusal)
+}
+
+// SOM 0.
+pub fn later(
+    endpoint: Endpoint,
+    store0: &mut [u8],
+    store1: &mut [u8],
+    header: Header,
+    payload: &[u8],
+) -> Done
+    requires { ⌜ (length (now store0) ≡ store-size) × (length (now store1) ≡ store-size) × Valid endpoint ⌝ }
+    ensures { λ r. ⌜ outcome (r .answer) (world (r .endpoint) (now (store0 .exit)) (now (store1 .exit))) ≡ Receive·later (world endpoint (now (store0 .entry)) (now (store1 .entry))) header (now (payload .entry)) ⌝ }
+{
+    let found = holder(endpoint, header.source, header.tag);
+    let Holder::At(slot, assembly) = found else {
+        return refused(endpoint, 21);
+    };
+    let refusal = mctp::join_refusal(
+        UNIT,
+        STORE_SIZE,
+        assembly.sequence,
+        assembly.length,
+        header,
+        payload.len(),
+    );
+    later_at(
+        endpoint,
+        store0,
+        store1,
+        slot,
+        assembly,
+        header,
+        payload,
+        refusal,
+    )
+}

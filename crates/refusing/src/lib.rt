@@ -1,0 +1,46 @@
+// What a refusal of Receiving leaves: its flag.
+ghost use mathlib.Core.Path.{_≡_};
+ghost use mathlib.Core.List.{List};
+ghost use Prim.Native.Nat.{ℕ, _<_};
+ghost use Rattle.machine.specs.State.{world, outcome};
+ghost use Rattle.machine.specs.Receive.{flagOf, refused as Receive·refused, refusedBusy};
+use machine::Done;
+use machine::Endpoint;
+use slots::ended;
+
+// The flag that a refusal sets, at its place in the Get State word.
+fn flag_of(n: u8) -> u16
+    ensures { λ r. ⌜ r ≡ flagOf n ⌝ }
+{
+    match n {
+        11 => 1 << 6,
+        12 => 1 << 7,
+        13 => 1 << 8,
+        14 => 1 << 12,
+        16 => 1 << 9,
+        19 => 1 << 4,
+        21 => 1 << 10,
+        22 => 1 << 11,
+        _ => 0,
+    }
+}
+
+// A refusal changes nothing but its flag.
+pub fn refused(endpoint: Endpoint, n: u8) -> Done
+    ensures { λ r. ⌜ ((a b : List ℕ) → outcome (r .answer) (world (r .endpoint) a b) ≡ Receive·refused (world endpoint a b) n) ⌝ }
+{
+    let flags = endpoint.flags | flag_of(n);
+    ended(n, Endpoint { flags, ..endpoint })
+}
+
+// 20: the flag is the slot's own.
+pub fn refused_busy(endpoint: Endpoint, slot: usize) -> Done
+    requires { ⌜ slot < 2 ⌝ }
+    ensures { λ r. ⌜ ((a b : List ℕ) → outcome (r .answer) (world (r .endpoint) a b) ≡ refusedBusy (world endpoint a b) slot) ⌝ }
+{
+    let mut s = endpoint.slots[slot];
+    s.busy = true;
+    let mut e = endpoint;
+    e.slots[slot] = s;
+    ended(20, e)
+}
