@@ -1,7 +1,5 @@
 // Which slot gathers under a source and a message tag, and how an assembly ends.
 ghost use mathlib.Core.Path.{_≡_};
-ghost use Prim.Native.Nat.{_<_};
-ghost use Rattle.machine.specs.State.{slotAt, withSlot, idled as State·idled};
 ghost use Rattle.machine.specs.Receive.{isFrom, gathers as Receive·gathers, endedSlot, endAssembly, holderIn, holder as Receive·holder};
 use machine::Assembly;
 use machine::Endpoint;
@@ -10,17 +8,6 @@ use machine::Phase;
 use machine::Slot;
 use slots::idled;
 use slots::phase_of;
-
-// The slot goes to Idle.
-pub fn dropped(endpoint: Endpoint, slot: usize) -> Endpoint
-    requires { ⌜ slot < 2 ⌝ }
-    ensures { λ r. ⌜ r ≡ withSlot endpoint slot (State·idled (slotAt endpoint slot)) ⌝ }
-{
-    let s = endpoint.slots[slot];
-    let mut e = endpoint;
-    e.slots[slot] = idled(s);
-    e
-}
 
 // Assemblies are told apart by source and tag.
 fn is_from(source: u8, tag: u8, assembly: Assembly) -> bool

@@ -2,7 +2,7 @@
 ghost use mathlib.Core.Path.{_≡_};
 ghost use Prim.Native.Nat.{_≤_, _<_};
 ghost use lib.ListN.{length};
-ghost use Rattle.machine.specs.Control.{pauseWord, resumedSlot, takenWord, abortWord, stateNumber, stateWord, clearFlags, bit as Control·bit, released as Control·released, resume as Control·resume, abort as Control·abort, primitive as Control·primitive, replied as Control·replied, controlled as Control·controlled};
+ghost use Rattle.machine.specs.Control.{pauseWord, resumedSlot, takenWord, abortWord, stateNumber, stateWord, clearFlags, bit as Control·bit, released as Control·released, resume as Control·resume, primitive as Control·primitive, replied as Control·replied, controlled as Control·controlled};
 use machine::Acted;
 use machine::Endpoint;
 use machine::Phase;
@@ -11,7 +11,7 @@ use machine::Taking;
 use mctp::Header;
 use nvme_mi::Fault;
 use nvme_mi::MessageHeader;
-use slots::idled;
+use slots::dropped;
 use slots::pause;
 use slots::phase_of;
 
@@ -98,16 +98,6 @@ fn abort_word(phase: Phase) -> u16
     }
 }
 
-// Abort: the slot goes to Idle.
-fn abort(endpoint: Endpoint, slot: usize) -> Endpoint
-    requires { ⌜ slot < 2 ⌝ }
-    ensures { λ r. ⌜ r ≡ Control·abort endpoint slot ⌝ }
-{
-    let mut anew = endpoint;
-    anew.slots[slot] = idled(endpoint.slots[slot]);
-    anew
-}
-
 fn state_number(phase: Phase) -> u16
     ensures { λ r. ⌜ r ≡ stateNumber phase ⌝ }
 {
@@ -161,7 +151,7 @@ fn primitive(endpoint: Endpoint, opcode: u8, slot: usize, clear: bool) -> Acted
     }
     if opcode == ABORT {
         return Acted {
-            endpoint: abort(endpoint, slot),
+            endpoint: dropped(endpoint, slot),
             cpsr: abort_word(phase_of(endpoint, slot)),
         };
     }

@@ -640,10 +640,11 @@ PollLeft p = Valid (p .endpoint)
 pub command-valid : (w : World) (i : ℕ) (r : Response) (buffer : List ℕ) → Chosen (w .endpoint) i r → Valid (w .endpoint) → PollLeft (sentCommand w i r buffer)
 unfolding sentCommand
 command-valid w i r buffer c v =
+    let turned : sentCommand w i r buffer .endpoint .turn ≡ otherSlot i = refl in
     record {
       eid-least = v .eid-least;
       eid-most = v .eid-most;
-      turn-most = other-most i;
+      turn-most = rw turned (other-most i);
       slots-valid =
           sent-slots i (c .slot-is) (v .slots-valid) _
           (after-packet (slotAt (w .endpoint) i) r (rw (c .sends) at (facts-at i (c .slot-is) v))) (c .first-of-two);

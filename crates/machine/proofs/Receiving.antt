@@ -71,9 +71,9 @@ read-sized eid packet e =
     record { some = rw (length-drop 4 packet) (omega (arith, k .0)); most = rw (length-drop 4 packet) (omega (arith, k .1)) }
 
 -- a later packet that is not refused joins
-pub record Joins (h : Header) (gathered n : ℕ) : Type 0 where
+pub record Joins (unit limit : ℕ) (h : Header) (gathered n : ℕ) : Type 0 where
   pub whole-unit : isCut unit h n ≡ false
-  pub fits : gathered + n ≤ store-size
+  pub fits : gathered + n ≤ limit
 
 -- a header's refusal has a number from 10 to 14
 abbrev Numbered : Read → Type 0
@@ -127,13 +127,13 @@ read-facts eid packet {h} e =
 not-zero : {A : Type 0} (n : ℕ) → suc n ≡ 0 → A
 not-zero n e = absurd (omega arith)
 
-pub joins : (sequence gathered n : ℕ) (h : Header) → joinRefusal unit store-size sequence gathered h n ≡ 0 → Joins h gathered n
+pub joins : (unit limit sequence gathered n : ℕ) (h : Header) → joinRefusal unit limit sequence gathered h n ≡ 0 → Joins unit limit h gathered n
 unfolding joinRefusal
-joins sequence gathered n h e =
+joins unit limit sequence gathered n h e =
     let a = if-second (not (eqb (h .sequence) ((sequence + 1) % 4))) (not-zero 21) e in
     let b = if-second (isCut unit h n) (not-zero 15) (a .1) in
-    let c = if-second (ltb store-size (gathered + n)) (not-zero 22) (b .1) in
-    record { whole-unit = b .0; fits = ltb-false store-size (gathered + n) (c .0) }
+    let c = if-second (ltb limit (gathered + n)) (not-zero 22) (b .1) in
+    record { whole-unit = b .0; fits = ltb-false limit (gathered + n) (c .0) }
 
 pub right-stores : (w : World) → Sound w → wrongStores w ≡ false
 right-stores w s = rw (s .size0, s .size1) refl
@@ -317,7 +317,7 @@ module _ (w₀ : World) (packet : List ℕ) (P : World → Type 0) (Q : Outcome 
       let refusal = joinRefusal unit store-size (a .sequence) (a .length) H (length M) in
       if-ind Q (eqb refusal 0)
       (λ none.
-      let j = joins (a .sequence) (a .length) (length M) H (eqb-true refusal 0 none) in
+      let j = joins unit store-size (a .sequence) (a .length) (length M) H (eqb-true refusal 0 none) in
       gathered-walk w i (a .length)
       (record { slot-is = is; early = early; alone = free; fits = j .fits; origin = goes-on som a (held .gathers-it) (held .from-it) })
       (λ _. omega (arith, size .0)) (λ _. omega (arith, size .0)) p)

@@ -4,7 +4,7 @@ ghost use mathlib.Core.Bool.{not, _||_};
 ghost use Prim.Native.Nat.{_<_};
 ghost use lib.Dec.{eqb};
 ghost use Rattle.lent.specs.Choice.{if_then_else_};
-ghost use Rattle.machine.specs.State.{slotAt, isIdle, idled as State·idled, settled as State·settled, ended as State·ended};
+ghost use Rattle.machine.specs.State.{slotAt, withSlot, isIdle, idled as State·idled, settled as State·settled, ended as State·ended};
 ghost use Rattle.machine.specs.Poll.{otherSlot};
 ghost use Rattle.machine.specs.Wire.{store-size};
 ghost use Rattle.machine.specs.Control.{pausedSlot, pause as Control·pause};
@@ -71,6 +71,16 @@ pub fn idled(slot: Slot) -> Slot
         phase: Phase::Idle,
         ..slot
     }
+}
+
+// Slot i goes to Idle.
+pub fn dropped(endpoint: Endpoint, i: usize) -> Endpoint
+    requires { ⌜ i < 2 ⌝ }
+    ensures { λ r. ⌜ r ≡ withSlot endpoint i (State·idled (slotAt endpoint i)) ⌝ }
+{
+    let mut anew = endpoint;
+    anew.slots[i] = idled(endpoint.slots[i]);
+    anew
 }
 
 // A response that is there goes to Transmit at once, unless the slot's own flag is set.

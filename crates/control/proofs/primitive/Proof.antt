@@ -2,7 +2,7 @@
 -- Assumes nothing.
 use borrow.Author.Tests.{eq-eqb, ne-eqb}
 use borrow.Author.Needs.{needs}
-use Rattle.machine.specs.Control.{primitive}
+use Rattle.machine.specs.Control.{abort, primitive}
 use Rattle.control.proofs.primitive.Statement.{statement}
 use Rattle.control.proofs.primitive.Tie as tie
 
@@ -15,12 +15,12 @@ unfolding primitive
 returns-2 c = rw (c .resume .ensures, ne-eqb _ _ (c .before .before .if1 .left), eq-eqb _ _ (c .before .if2 .taken))
 
 returns-3 : tie.Need-returns-3
-unfolding primitive
+unfolding abort primitive
 returns-3 c =
     let p = c .before in
     let d = p .before .before in
     rw (
-      p .before .abort .ensures,
+      p .before .dropped .ensures,
       c .abort-word .ensures,
       p .phase-of .ensures,
       ne-eqb _ _ (d .before .before .if1 .left),

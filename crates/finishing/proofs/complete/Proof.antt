@@ -3,15 +3,14 @@
 -- Assumes nothing.
 use Prim.Native.Nat.{ℕ, _≤_}
 use mathlib.Core.Path.{_≡_, refl, sym, ap, _∙_}
-use mathlib.Core.Bool.{false}
+use mathlib.Core.Bool.{true, false}
 use mathlib.Core.Logic.{⊎-elim}
-use mathlib.Core.List.{List, [], _∷_}
+use mathlib.Core.List.{List}
 use native.Mathlib.Omega.{arith}
+use lib.Dec.{eqb}
 use lib.ListN.{length}
-use types.Run.{OneOf, miss}
-use denote.Enum.Declared.{tagOf}
 use borrow.Author.Needs.{needs}
-use borrow.Author.Tests.{lt-ltb, le-ltb, eq-eqb, ne-eqb, ltb-false}
+use borrow.Author.Tests.{lt-ltb, le-ltb, eq-eqb, ne-eqb, ltb-true, ltb-false}
 use Rattle.machine.specs.Answers.{no-command}
 use Rattle.machine.specs.State.{World, outcome, world, slotAt}
 use Rattle.machine.specs.Wire.{wrongStores}
@@ -21,10 +20,9 @@ use Rattle.machine.specs.Valid.{Valid}
 use Rattle.machine.specs.declared.Ticket.{Ticket}
 use Rattle.machine.specs.declared.Endpoint.{Endpoint}
 use Rattle.machine.specs.declared.Phase.{Phase}
-use Rattle.machine.specs.declared.Phase.the-variants.{Idle, Receive, Process, Answered, Transmit}
-use Rattle.machine.proofs.Phase.{the-type}
 use Rattle.machine.proofs.Keeps.{completed-valid, sizes}
 use Rattle.slots.proofs.Kept.{kept}
+use Rattle.slots.proofs.Other.{not-process}
 use Rattle.slots.proofs.Stores.{Stays}
 use Rattle.finishing.proofs.complete.Statement.{statement}
 use Rattle.finishing.proofs.complete.Tie as tie
@@ -33,13 +31,6 @@ use Rattle.finishing.proofs.complete.Tie as tie
 at-slot : (w : World) (i : ℕ) (t : Ticket) (body : List ℕ) → wrongStores w ≡ false → i ≤ 1 → completed w i t body ≡ completedIn w i t body (slotAt (w .endpoint) i .phase)
 unfolding completed
 at-slot w i t body s h = rw (s, lt-ltb i 2 (omega arith))
-
-not-in-process : (w : World) (i : ℕ) (t : Ticket) (body : List ℕ) (p : Phase) → OneOf (0 ∷ 1 ∷ 3 ∷ 4 ∷ []) (tagOf the-type p) → completedIn w i t body p ≡ outcome no-command w
-not-in-process w i t body Idle h = refl
-not-in-process w i t body (Receive a) h = refl
-not-in-process w i t body (Process r) h = absurd (miss (0 ∷ 1 ∷ 3 ∷ 4 ∷ []) 2 tt h)
-not-in-process w i t body (Answered r) h = refl
-not-in-process w i t body (Transmit r) h = refl
 
 -- the endpoint and both stores, as they are lent
 abbrev lent : tie.Start → World
@@ -62,6 +53,17 @@ finish d row =
     let s = start d in
     kept Stays (still s) (row ∙ sym (at-slot (lent s) (s .args .slot) (s .args .ticket) (s .args .body .now) (passed d) (d .if2 .left)))
 
+-- the slot's ticket
+abbrev present : tie.Else2 → ℕ
+present d = slotAt (start d .args .t1) (start d .args .slot) .ticket .0
+
+-- behind 32
+same-ticket : (row : tie.Else3) → let slot = row .before .before .before .before .before .before .before .before in
+    eqb (start slot .args .ticket .0) (present slot) ≡ true
+same-ticket row =
+    let slot = row .before .before .before .before .before .before .before .before in
+    eq-eqb (start slot .args .ticket .0) (present slot) (omega (arith, row .if3 .left))
+
 returns : tie.Need-returns
 unfolding completed
 returns c =
@@ -79,33 +81,44 @@ returns-3 : tie.Need-returns-3
 returns-3 c =
     let slot = c .before .before .before in
     let s = start slot in
-    finish slot (rw (c .ended3 .ensures) (sym (not-in-process _ _ _ _ (slotAt (s .args .t1) (s .args .slot) .phase) (c .before .match .keys2))))
+    finish slot
+    (rw (c .ended3 .ensures)
+    (not-process (λ (p : Phase). outcome no-command (lent s) ≡ completedIn (lent s) (s .args .slot) (s .args .ticket) (s .args .body .now) p) refl (λ a. refl)
+    (λ r. refl) (λ r. refl) (slotAt (s .args .t1) (s .args .slot) .phase) (c .before .match .keys2)))
 
 returns-4 : tie.Need-returns-4
 returns-4 c =
     let command = c .before .before .before .before .before .before in
-    finish (command .before .before .before) (rw (c .ended4 .ensures, command .phase .given .1, ne-eqb _ _ (c .before .if3 .taken)))
+    let slot = command .before .before .before in
+    let other = ne-eqb (start slot .args .ticket .0) (present slot) (omega (arith, c .before .if3 .taken)) in
+    finish slot (rw (c .ended4 .ensures, command .phase .given .1, other))
 
 returns-5 : tie.Need-returns-5
 returns-5 c =
     let row = c .before .before .before in
     let command = row .before .before .before .before .before in
-    finish (command .before .before .before) (rw (c .ended5 .ensures, command .phase .given .1, eq-eqb _ _ (row .if3 .left), c .before .enum-told2 .given .1))
+    let slot = command .before .before .before in
+    finish slot (rw (c .ended5 .ensures, command .phase .given .1, same-ticket row, c .before .enum-told2 .given .1))
 
 returns-6 : tie.Need-returns-6
 returns-6 c =
     let row = c .before .before .before .before in
     let command = row .before .before .before .before .before in
-    finish (command .before .before .before)
-    (rw (c .ended6 .ensures, command .phase .given .1, eq-eqb _ _ (row .if3 .left), c .before .before .enum-told .given .1)
-    (⊎-elim (λ w. rw (lt-ltb _ _ (w .taken))) (λ w. rw (le-ltb _ _ (w .0 .left), w .1 .taken)) (c .before .if4 .came)))
+    let slot = command .before .before .before in
+    let n = length (start slot .args .body .now) in
+    finish slot
+    (rw (c .ended6 .ensures, command .phase .given .1, same-ticket row, c .before .before .enum-told .given .1)
+    (⊎-elim
+    (λ w. rw (lt-ltb _ _ (w .taken)))
+    (λ w. rw (le-ltb _ _ (w .0 .left), lt-ltb 4216 n (omega (arith, ltb-true _ n (w .1 .taken)))))
+    (c .before .if4 .came)))
 
 responded-requires : tie.Need-responded-requires
 responded-requires c κs =
     let body = c .before .before in
     let slot = body .before .before .before .before .before .before .before .before .before .before .before .before in
     let k = sizes (lent (start slot)) (passed slot) in
-    (k .0, k .1, search needs, omega (arith, ltb-false 4216 (length (start slot .args .body .now)) (body .if5 .left)))
+    (k .0, k .1, search needs, omega (arith, ltb-false _ (length (start slot .args .body .now)) (body .if5 .left)))
 
 returns-7 : tie.Need-returns-7
 unfolding responded
@@ -114,8 +127,11 @@ returns-7 c =
     let body = call .before .before .before in
     let row = body .before .before .before .before in
     let command = row .before .before .before .before .before in
-    finish (command .before .before .before)
-    (rw (c .ended7 .ensures, command .phase .given .1, eq-eqb _ _ (row .if3 .left), body .before .before .enum-told .given .1, le-ltb _ _ (body .before .if4 .left), body .if5 .left)
+    let slot = command .before .before .before in
+    let n = length (start slot .args .body .now) in
+    let most = le-ltb 4216 n (omega (arith, ltb-false _ n (body .if5 .left))) in
+    finish slot
+    (rw (c .ended7 .ensures, command .phase .given .1, same-ticket row, body .before .before .enum-told .given .1, le-ltb _ _ (body .before .if4 .left), most)
     (ap (outcome 0) (call .responded .ensures)))
 
 pub complete-spec : {M : Type 1} → statement M

@@ -35,7 +35,7 @@ later-at-requires c κs =
       search needs,
       search needs,
       omega (arith, found-at found .0),
-      λ e. joins (assembly .sequence) (assembly .length) (length (a .payload .now)) (a .header) (sym (join .join-refusal .ensures) ∙ e) .fits,
+      λ e. omega (arith, joins _ _ (assembly .sequence) (assembly .length) (length (a .payload .now)) (a .header) (sym (join .join-refusal .ensures) ∙ e) .fits),
     )
 
 returns-2 : tie.Need-returns-2

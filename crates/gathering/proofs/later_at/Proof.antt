@@ -1,6 +1,7 @@
 -- `gathering::later_at` meets its contract: 0 joins, any other number drops the slot.
 -- Assumes nothing.
 use mathlib.Core.Path.{_∙_}
+use native.Mathlib.Omega.{arith}
 use borrow.Author.Needs.{needs}
 use borrow.Author.Tests.{eq-eqb, ne-eqb}
 use Rattle.machine.specs.Receive.{laterAt}
@@ -10,13 +11,14 @@ use Rattle.gathering.proofs.later_at.Tie as tie
 gathered-requires : tie.Need-gathered-requires
 gathered-requires c κs =
     let test = c .before .before in
-    (search needs, search needs, search needs, test .before .before .before .before .pre .3 (test .if1 .taken))
+    (search needs, search needs, search needs, test .before .before .before .before .pre .3 (omega (arith, test .if1 .taken)))
 
 returns : tie.Need-returns
 unfolding laterAt
 returns c =
     let call = c .before .before .before .before in
-    rw (eq-eqb _ 0 (call .before .before .before .if1 .taken)) (call .gathered .ensures)
+    let test = call .before .before .before in
+    rw (eq-eqb (test .before .before .before .before .args .refusal) 0 (omega (arith, test .if1 .taken))) (call .gathered .ensures)
 
 returns-2 : tie.Need-returns-2
 unfolding laterAt

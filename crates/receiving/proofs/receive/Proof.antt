@@ -34,7 +34,7 @@ still s = received-valid (lent s) (s .args .packet .now) (s .pre)
 
 -- behind 40
 passed : (d : tie.Else1) → wrongStores (lent (start d)) ≡ false
-passed d = sym (d .before .wrong-stores .ensures) ∙ d .if1 .left
+passed d = rw (← d .before .wrong-stores .ensures) (d .if1 .left)
 
 -- of a packet that is read
 sized : (r : tie.After-read) → let n = length (start (r .before .before .before) .args .packet .now) in (5 ≤ n) × (n ≤ 68)
@@ -53,7 +53,7 @@ returns : tie.Need-returns
 unfolding received
 returns c =
     let stores = c .before .before in
-    kept Stays (still (stores .before .before .before .before)) (rw (c .ended .ensures, sym (stores .wrong-stores .ensures) ∙ c .before .if1 .taken))
+    kept Stays (still (stores .before .before .before .before)) (rw (c .ended .ensures, ← stores .wrong-stores .ensures, c .before .if1 .taken))
 
 returns-2 : tie.Need-returns-2
 unfolding received

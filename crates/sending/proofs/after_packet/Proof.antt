@@ -1,5 +1,6 @@
 -- `sending::after_packet` meets its contract: the packet that reaches the response's end is its last.
 -- Assumes nothing.
+use Prim.Native.Nat.{_+_, _*_}
 use native.Mathlib.Omega.{arith}
 use borrow.Author.Tests.{le-leb, lt-leb}
 use borrow.Author.Needs.{needs}
@@ -11,13 +12,15 @@ use Rattle.sending.proofs.after_packet.Tie as tie
 returns : tie.Need-returns
 returns c =
     let s = c .before .before .before .before in
-    rw (c .idled .ensures, last-packet unit _ _ (omega arith) (s .pre .0), le-leb _ _ (c .before .if1 .taken))
+    let r = s .args .response in
+    rw (c .idled .ensures, last-packet unit _ _ (omega arith) (s .pre .0), le-leb (r .length) (unit * r .sent + unit) (omega (arith, c .before .if1 .taken)))
 
 returns-2 : tie.Need-returns-2
 returns-2 c =
     let k = c .before .before in
     let s = k .before .before .before in
-    rw (last-packet unit _ _ (omega arith) (s .pre .0), lt-leb _ _ (k .if1 .left))
+    let r = s .args .response in
+    rw (last-packet unit _ _ (omega arith) (s .pre .0), lt-leb (r .length) (unit * r .sent + unit) (omega (arith, k .if1 .left)))
 
 pub after-packet-spec : {M : Type 1} → statement M
 after-packet-spec =

@@ -1,8 +1,8 @@
--- `assembly::dropped` meets its contract: its slot is what `idled` makes of it.
+-- `slots::dropped` meets its contract: its slot is what `idled` makes of it.
 -- Assumes nothing.
 use borrow.Author.Needs.{needs}
-use Rattle.assembly.proofs.dropped.Statement.{statement}
-use Rattle.assembly.proofs.dropped.Tie as tie
+use Rattle.slots.proofs.dropped.Statement.{statement}
+use Rattle.slots.proofs.dropped.Tie as tie
 
 returns : tie.Need-returns
 returns c = rw (c .idled .ensures)
