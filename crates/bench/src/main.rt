@@ -78,23 +78,12 @@ fn vectors() {
     );
 }
 
-// Writes the check of the first n bytes of a message behind them, low byte first.
-fn seal(message: &mut [u8], n: usize)
-    requires { ⌜ n + 4 ≤ length (now message) ⌝ }
-{
-    let check = crc32c::crc32c(&message[..n]);
-    message[n] = (check % 256) as u8;
-    message[n + 1] = (check / 256 % 256) as u8;
-    message[n + 2] = (check / 65536 % 256) as u8;
-    message[n + 3] = (check / 16777216 % 256) as u8;
-}
-
 // An MI command for slot 0 of 20 bytes.
 fn mi_command() -> [u8; 20] {
     let mut message = [0u8; 20];
     message[0] = 0x84;
     message[1] = 0x08;
-    seal(&mut message, 16);
+    nvme_mi::write_check(&mut message, 16);
     message
 }
 
@@ -104,7 +93,7 @@ fn get_state() -> [u8; 12] {
     message[0] = 0x84;
     message[4] = 3;
     message[5] = 0x5a;
-    seal(&mut message, 8);
+    nvme_mi::write_check(&mut message, 8);
     message
 }
 
@@ -137,7 +126,7 @@ fn longest_command(message: &mut [u8])
     requires { ⌜ 4224 ≤ length (now message) ⌝ }
 {
     fill(message);
-    seal(message, 4220);
+    nvme_mi::write_check(message, 4220);
 }
 
 // Sends packet k of a message from EID 9 to EID 8 under a message tag.

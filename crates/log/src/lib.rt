@@ -9,7 +9,8 @@ ghost use Rattle.machine.specs.Finish.{takeNumber};
 ghost use Rattle.machine.specs.Valid.{Valid};
 ghost use Rattle.machine.specs.declared.PollAnswer.{PollAnswer};
 ghost use Rattle.records.specs.Records.{line-room, isRecord};
-ghost use Rattle.log.specs.Log.{pollLine, withEndpoint, begun, ticketOf, withTicket, ticketKept, recorded, packetRecorded, pollRecorded, timeoutRecorded, takeRecorded, completeRecorded, resetRecorded, Told};
+ghost use Rattle.log.specs.Log.{pollLine, withEndpoint, begun, ticketOf, withTicket, ticketKept, byDone, recorded, packetRecorded, pollRecorded, timeoutRecorded, takeRecorded, completeRecorded, resetRecorded, Told};
+use machine::Done;
 use machine::Endpoint;
 use machine::PollAnswer;
 use machine::TakeAnswer;
@@ -106,6 +107,18 @@ fn poll_line(line: &mut [u8], buffer: &[u8], answer: PollAnswer) -> usize
     }
 }
 
+// A call that answered by number: the line with the number, and the session with the state that the call left.
+fn numbered(session: Session, done: Done, line: &mut [u8]) -> Answer
+    requires { ⌜ Valid (done .endpoint) × (line-room ≤ length (now line)) ⌝ }
+    ensures { λ r. ⌜ ((a b : List ℕ) → Told (byDone session a b done) (now (line .entry)) (now (line .exit)) r a b) ⌝ }
+{
+    let length = number_line(line, done.answer);
+    Answer {
+        session: moved(session, done.endpoint),
+        length,
+    }
+}
+
 // Record 1: a packet.
 fn packet_record(
     session: Session,
@@ -118,11 +131,7 @@ fn packet_record(
     ensures { λ r. ⌜ Told (packetRecorded session (now (store0 .entry)) (now (store1 .entry)) (now (packet .entry))) (now (line .entry)) (now (line .exit)) r (now (store0 .exit)) (now (store1 .exit)) ⌝ }
 {
     let done = endpoint::receive(session.endpoint, store0, store1, packet);
-    let length = number_line(line, done.answer);
-    Answer {
-        session: moved(session, done.endpoint),
-        length,
-    }
+    numbered(session, done, line)
 }
 
 // Record 2: a poll.
@@ -146,11 +155,7 @@ fn timeout_record(session: Session, slot: usize, line: &mut [u8]) -> Answer
     ensures { λ r. ⌜ ((a b : List ℕ) → Told (timeoutRecorded session a b slot) (now (line .entry)) (now (line .exit)) r a b) ⌝ }
 {
     let done = endpoint::timeout(session.endpoint, slot);
-    let length = number_line(line, done.answer);
-    Answer {
-        session: moved(session, done.endpoint),
-        length,
-    }
+    numbered(session, done, line)
 }
 
 // Record 4: a take.
@@ -182,11 +187,7 @@ fn complete_record(
 {
     let ticket = ticket_of(session, slot);
     let done = endpoint::complete(session.endpoint, store0, store1, slot, ticket, body);
-    let length = number_line(line, done.answer);
-    Answer {
-        session: moved(session, done.endpoint),
-        length,
-    }
+    numbered(session, done, line)
 }
 
 // Record 6: a reset.
@@ -195,11 +196,7 @@ fn reset_record(session: Session, line: &mut [u8]) -> Answer
     ensures { λ r. ⌜ ((a b : List ℕ) → Told (resetRecorded session a b) (now (line .entry)) (now (line .exit)) r a b) ⌝ }
 {
     let done = endpoint::reset(session.endpoint);
-    let length = number_line(line, done.answer);
-    Answer {
-        session: moved(session, done.endpoint),
-        length,
-    }
+    numbered(session, done, line)
 }
 
 // The session at the start.

@@ -130,7 +130,7 @@ pub fn check_right(message: &[u8]) -> bool
 }
 
 // Writes the check of the first n bytes of a store behind them, low byte first.
-fn write_check(store: &mut [u8], n: usize)
+pub fn write_check(store: &mut [u8], n: usize)
     requires { ⌜ n + 4 ≤ length (now store) ⌝ }
     ensures { λ _. ⌜ now (store .exit) ≡ withCheck (take n (now (store .entry))) ++ drop (n + 4) (now (store .entry)) ⌝ }
 {

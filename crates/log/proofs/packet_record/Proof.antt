@@ -1,19 +1,13 @@
--- `log::packet_record` meets its contract: the call's answer is what the definition prints, and its state the session's.
+-- `log::packet_record` meets its contract: its number is the one of `received`, and the stores are as that leaves them.
 -- Assumes nothing.
 use borrow.Author.Needs.{needs}
-use Rattle.log.proofs.Told.{told-by}
-use Rattle.records.specs.Records.{numberLine}
 use Rattle.log.proofs.packet_record.Statement.{statement}
 use Rattle.log.proofs.packet_record.Tie as tie
 
 returns : tie.Need-returns
 returns c =
-    let n = c .before .before .before in
-    let r = n .before .before .before .before .before .before in
-    rw (← r .receive .ensures .0) (told-by (numberLine (r .receive .result .answer)) (n .number-line .ensures) (c .moved .ensures) (r .receive .ensures .1))
+    let n = c .before .before in
+    rw (← n .before .before .before .before .before .before .receive .ensures .0) (n .numbered .ensures _ _)
 
 pub packet-record-spec : {M : Type 1} → statement M
-packet-record-spec =
-    tie.close
-    (tie.spec (λ c κs. search needs) (λ c κs. search needs) (λ c κs. search needs) (λ c. search needs) (λ c. search needs)
-    (λ c. search needs) returns)
+packet-record-spec = tie.close (tie.spec (λ c κs. search needs) (λ c κs. search needs) (λ c. search needs) (λ c. search needs) (λ c. search needs) returns)
