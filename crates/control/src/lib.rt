@@ -14,6 +14,7 @@ use nvme_mi::MessageHeader;
 use slots::dropped;
 use slots::pause;
 use slots::phase_of;
+use slots::with_slot;
 
 // Opcodes. The one that is left, Get State, is 3.
 const PAUSE: u8 = 0;
@@ -125,10 +126,9 @@ fn clear_flags(endpoint: Endpoint, slot: usize) -> Endpoint
     requires { ⌜ slot < 2 ⌝ }
     ensures { λ r. ⌜ r ≡ clearFlags endpoint slot ⌝ }
 {
-    let mut anew = endpoint;
-    anew.slots[slot].busy = false;
-    anew.flags = 0;
-    anew
+    let s = endpoint.slots[slot];
+    let anew = with_slot(endpoint, slot, Slot { busy: false, ..s });
+    Endpoint { flags: 0, ..anew }
 }
 
 // The four primitives.

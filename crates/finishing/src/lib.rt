@@ -10,7 +10,7 @@ use machine::Taking;
 use machine::Ticket;
 use process::responded;
 use slots::ended;
-use slots::idled;
+use slots::dropped;
 use slots::wrong_stores;
 
 // A body runs from the status to before the check.
@@ -93,11 +93,7 @@ pub fn timeout(endpoint: Endpoint, slot: usize) -> Done
             endpoint,
         };
     }
-    let mut anew = endpoint;
-    anew.slots[slot] = idled(s);
-    anew.flags = endpoint.flags | TIMEOUT_SEEN;
-    Done {
-        answer: 0,
-        endpoint: anew,
-    }
+    let anew = dropped(endpoint, slot);
+    let flags = anew.flags | TIMEOUT_SEEN;
+    ended(0, Endpoint { flags, ..anew })
 }

@@ -24,6 +24,7 @@ use slots::ended;
 use slots::is_idle;
 use slots::phase_of;
 use slots::store_of;
+use slots::with_slot;
 
 // A command that is whole: with a wrong check it is refused and its slot goes to Idle, else the slot enters Process.
 fn checked(
@@ -63,12 +64,11 @@ fn joined(
         return checked(endpoint, store0, store1, slot, assembly);
     }
     let s = endpoint.slots[slot];
-    let mut e = endpoint;
-    e.slots[slot] = Slot {
+    let receiving = Slot {
         phase: Phase::Receive(assembly),
         ..s
     };
-    ended(0, e)
+    ended(0, with_slot(endpoint, slot, receiving))
 }
 
 // A command's packet that is not refused: its payload goes behind the bytes so far.

@@ -17,6 +17,7 @@ use nvme_mi::Fault;
 use nvme_mi::MessageHeader;
 use slots::pause;
 use slots::settled;
+use slots::with_slot;
 
 // The command that an assembly became.
 fn request_of(assembly: Assembly, message_header: MessageHeader) -> Request
@@ -76,9 +77,7 @@ pub fn responded(
     }
     let s = endpoint.slots[slot];
     let phase = settled(s.paused, response_to(request, body));
-    let mut e = endpoint;
-    e.slots[slot] = Slot { phase, ..s };
-    e
+    with_slot(endpoint, slot, Slot { phase, ..s })
 }
 
 // A command with a fault is answered at once.
@@ -120,9 +119,7 @@ pub fn entered(
     ensures { λ r. ⌜ world r (now (store0 .exit)) (now (store1 .exit)) ≡ Process·entered (world endpoint (now (store0 .entry)) (now (store1 .entry))) slot assembly «message_header» ⌝ }
 {
     let request = request_of(assembly, message_header);
-    let s = endpoint.slots[slot];
-    let mut e = endpoint;
-    e.slots[slot] = processing(s, request);
+    let e = with_slot(endpoint, slot, processing(endpoint.slots[slot], request));
     let fault = nvme_mi::command_fault(message_header, assembly.length);
     let paused = paused_if(message_header.ciap, e);
     responded_at_once(paused, store0, store1, slot, request, fault)

@@ -6,7 +6,9 @@ ghost use Rattle.machine.specs.State.{world, outcome};
 ghost use Rattle.machine.specs.Receive.{flagOf, refused as Receive·refused, refusedBusy};
 use machine::Done;
 use machine::Endpoint;
+use machine::Slot;
 use slots::ended;
+use slots::with_slot;
 
 // The flag that a refusal sets, at its place in the Get State word.
 fn flag_of(n: u8) -> u16
@@ -38,9 +40,6 @@ pub fn refused_busy(endpoint: Endpoint, slot: usize) -> Done
     requires { ⌜ slot < 2 ⌝ }
     ensures { λ r. ⌜ ((a b : List ℕ) → outcome (r .answer) (world (r .endpoint) a b) ≡ refusedBusy (world endpoint a b) slot) ⌝ }
 {
-    let mut s = endpoint.slots[slot];
-    s.busy = true;
-    let mut e = endpoint;
-    e.slots[slot] = s;
-    ended(20, e)
+    let s = endpoint.slots[slot];
+    ended(20, with_slot(endpoint, slot, Slot { busy: true, ..s }))
 }

@@ -73,14 +73,22 @@ pub fn idled(slot: Slot) -> Slot
     }
 }
 
+// The endpoint with this slot at place i.
+pub fn with_slot(endpoint: Endpoint, i: usize, slot: Slot) -> Endpoint
+    requires { ⌜ i < 2 ⌝ }
+    ensures { λ r. ⌜ r ≡ withSlot endpoint i slot ⌝ }
+{
+    let mut anew = endpoint;
+    anew.slots[i] = slot;
+    anew
+}
+
 // Slot i goes to Idle.
 pub fn dropped(endpoint: Endpoint, i: usize) -> Endpoint
     requires { ⌜ i < 2 ⌝ }
     ensures { λ r. ⌜ r ≡ withSlot endpoint i (State·idled (slotAt endpoint i)) ⌝ }
 {
-    let mut anew = endpoint;
-    anew.slots[i] = idled(endpoint.slots[i]);
-    anew
+    with_slot(endpoint, i, idled(endpoint.slots[i]))
 }
 
 // A response that is there goes to Transmit at once, unless the slot's own flag is set.

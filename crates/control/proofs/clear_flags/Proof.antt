@@ -1,6 +1,5 @@
--- `control::clear_flags` meets its contract: the two stores make the state that the definition names.
+-- `control::clear_flags` meets its contract: the slot without its flag is put back, and the flags are 0.
 -- Assumes nothing.
-use mathlib.Core.Path.{refl}
 use borrow.Author.Needs.{needs}
 use Rattle.machine.specs.Control.{clearFlags}
 use Rattle.control.proofs.clear_flags.Statement.{statement}
@@ -8,7 +7,7 @@ use Rattle.control.proofs.clear_flags.Tie as tie
 
 returns : tie.Need-returns
 unfolding clearFlags
-returns c = refl
+returns c = rw (c .before .before .with-slot .ensures)
 
 pub clear-flags-spec : {M : Type 1} → statement M
-clear-flags-spec = tie.close (tie.spec (λ c. search needs) (λ c. search needs) returns)
+clear-flags-spec = tie.close (tie.spec (λ c. search needs) (λ c. search needs) (λ c κs. search needs) returns)

@@ -39,15 +39,15 @@ returns-2 c =
 returns-3 : tie.Need-returns-3
 unfolding timedOut
 returns-3 c =
-    let q = c .before .before in
+    let drop = c .before .before .before .before in
+    let q = drop .before .before in
     let k = q .before in
     let d = k .before .before in
     let s = d .before in
     done (s .args .t1) (s .args .slot) (s .pre)
-    (rw (c .idled .ensures, lt-ltb _ _ (d .if1 .left), ← k .is-receive .ensures, q .if2 .left, c .before .if3 .left))
+    (rw (c .ended .ensures, drop .dropped .ensures, lt-ltb _ _ (d .if1 .left), ← k .is-receive .ensures, q .if2 .left, drop .before .if3 .left))
 
 pub timeout-spec : {M : Type 1} → statement M
 timeout-spec =
     tie.close
-    (tie.spec returns (λ c. search needs) (λ c. search needs) (λ c κs. search needs) returns-2 (λ c κs. search needs) (λ c. search needs)
-    (λ c. search needs) returns-3)
+    (tie.spec returns (λ c. search needs) (λ c. search needs) (λ c κs. search needs) returns-2 (λ c κs. search needs) (λ c κs. search needs) returns-3)

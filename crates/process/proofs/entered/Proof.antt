@@ -13,11 +13,10 @@ returns c =
     let paused = call .before .before .before in
     let slot = paused .before .before in
     call .responded-at-once .ensures
-    ∙ rw (paused .paused-if .ensures, slot .processing .ensures, slot .before .before .request-of .ensures, paused .before .command-fault .ensures)
+    ∙ rw (paused .paused-if .ensures, slot .with-slot .ensures, slot .before .processing .ensures, slot .before .before .before .request-of .ensures, paused .before .command-fault .ensures)
 
 pub entered-spec : {M : Type 1} → statement M
 entered-spec =
     tie.close
-    (tie.spec (λ c κs. search needs) (λ c. search needs) (λ c. search needs) (λ c κs. search needs) (λ c. search needs)
-    (λ c. search needs) (λ c κs. search needs) (λ c κs. search needs) (λ c κs. search needs) (λ c. search needs) (λ c. search needs)
-    returns)
+    (tie.spec (λ c κs. search needs) (λ c. search needs) (λ c. search needs) (λ c κs. search needs) (λ c κs. search needs)
+    (λ c κs. search needs) (λ c κs. search needs) (λ c κs. search needs) (λ c. search needs) (λ c. search needs) returns)

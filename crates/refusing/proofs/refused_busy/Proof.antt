@@ -7,9 +7,7 @@ use Rattle.refusing.proofs.refused_busy.Tie as tie
 
 returns : tie.Need-returns
 unfolding refusedBusy
-returns c = λ a b. rw (c .ended .ensures)
+returns c = λ a b. rw (c .ended .ensures, c .before .with-slot .ensures)
 
 pub refused-busy-spec : {M : Type 1} → statement M
-refused-busy-spec =
-    tie.close
-    (tie.spec (λ c. search needs) (λ c. search needs) (λ c. search needs) (λ c. search needs) (λ c κs. search needs) returns)
+refused-busy-spec = tie.close (tie.spec (λ c. search needs) (λ c. search needs) (λ c κs. search needs) (λ c κs. search needs) returns)
