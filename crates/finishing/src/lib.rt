@@ -9,8 +9,8 @@ use machine::Phase;
 use machine::Taking;
 use machine::Ticket;
 use process::responded;
-use slots::ended;
 use slots::dropped;
+use slots::ended;
 use slots::wrong_stores;
 
 // A body runs from the status to before the check.
