@@ -7,6 +7,7 @@ The answers are the log program's own (./mi-log is run on the log). What the slo
 program of tests/; a line says so if that program would have answered otherwise.
 """
 import pathlib
+import signal
 import subprocess
 import sys
 

@@ -79,19 +79,13 @@ pub fn timeout(endpoint: Endpoint, slot: usize) -> Done
     ensures { λ r. ⌜ r ≡ timedOut endpoint slot ⌝ }
     ensures { λ r. ⌜ Valid (r .endpoint) ⌝ }
 {
-    if slot >= 2 {
-        return Done {
-            answer: 30,
-            endpoint,
-        };
+    if slot > 1 {
+        return ended(30, endpoint);
     }
     let s = endpoint.slots[slot];
     let phase = s.phase;
     if !is_receive(phase) || s.paused {
-        return Done {
-            answer: 37,
-            endpoint,
-        };
+        return ended(37, endpoint);
     }
     let anew = dropped(endpoint, slot);
     let flags = anew.flags | TIMEOUT_SEEN;

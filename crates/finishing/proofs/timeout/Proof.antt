@@ -3,6 +3,7 @@
 use Prim.Native.Nat.{ℕ}
 use mathlib.Core.Path.{_≡_}
 use mathlib.Core.Logic.{⊎-elim}
+use native.Mathlib.Omega.{arith}
 use borrow.Author.Tests.{lt-ltb, le-ltb}
 use borrow.Author.Needs.{needs}
 use Rattle.machine.specs.Finish.{timedOut}
@@ -20,21 +21,21 @@ done e i v h = kept (λ (d : Done). Valid (d .endpoint)) (timeout-valid e i v) h
 returns : tie.Need-returns
 unfolding timedOut
 returns c =
-    let s = c .before in
-    done (s .args .t1) (s .args .slot) (s .pre) (rw (le-ltb _ _ (c .if1 .taken)))
+    let s = c .before .before in
+    done (s .args .t1) (s .args .slot) (s .pre) (rw (c .ended .ensures, le-ltb _ 2 (c .before .if1 .taken)))
 
 returns-2 : tie.Need-returns-2
 unfolding timedOut
 returns-2 c =
-    let k = c .before in
+    let k = c .before .before in
     let d = k .before .before in
     let s = d .before in
-    let slot = lt-ltb _ _ (d .if1 .left) in
+    let slot = lt-ltb (s .args .slot) 2 (omega (arith, d .if1 .left)) in
     done (s .args .t1) (s .args .slot) (s .pre)
     (⊎-elim
-    (λ other. rw (slot, ← k .is-receive .ensures, other .taken))
-    (λ paused. rw (slot, ← k .is-receive .ensures, paused .0 .left, paused .1 .taken))
-    (c .if2 .came))
+    (λ other. rw (c .ended2 .ensures, slot, ← k .is-receive .ensures, other .taken))
+    (λ paused. rw (c .ended2 .ensures, slot, ← k .is-receive .ensures, paused .0 .left, paused .1 .taken))
+    (c .before .if2 .came))
 
 returns-3 : tie.Need-returns-3
 unfolding timedOut
@@ -44,10 +45,12 @@ returns-3 c =
     let k = q .before in
     let d = k .before .before in
     let s = d .before in
+    let slot = lt-ltb (s .args .slot) 2 (omega (arith, d .if1 .left)) in
     done (s .args .t1) (s .args .slot) (s .pre)
-    (rw (c .ended .ensures, drop .dropped .ensures, lt-ltb _ _ (d .if1 .left), ← k .is-receive .ensures, q .if2 .left, drop .before .if3 .left))
+    (rw (c .ended3 .ensures, drop .dropped .ensures, slot, ← k .is-receive .ensures, q .if2 .left, drop .before .if3 .left))
 
 pub timeout-spec : {M : Type 1} → statement M
 timeout-spec =
     tie.close
-    (tie.spec returns (λ c. search needs) (λ c. search needs) (λ c κs. search needs) returns-2 (λ c κs. search needs) (λ c κs. search needs) returns-3)
+    (tie.spec (λ c κs. search needs) returns (λ c. search needs) (λ c. search needs) (λ c κs. search needs) (λ c κs. search needs) returns-2
+    (λ c κs. search needs) (λ c κs. search needs) returns-3)
