@@ -147,4 +147,5 @@ def main():
         print(f"       {slots}{'; a control reply waits' if model.reply else ''}")
 
 
+signal.signal(signal.SIGPIPE, signal.SIG_DFL)  # a reader such as head may stop early
 main()
