@@ -1,5 +1,8 @@
 // Which slot gathers under a source and a message tag, and how an assembly ends.
 ghost use mathlib.Core.Path.{_≡_};
+ghost use Prim.Native.Nat.{_<_};
+ghost use Rattle.machine.specs.State.{slotAt, withSlot, withPhase};
+ghost use Rattle.machine.specs.declared.Phase.{Phase};
 ghost use Rattle.machine.specs.Receive.{isFrom, gathers as Receive·gathers, endedSlot, endAssembly, holderIn, holder as Receive·holder};
 use machine::Assembly;
 use machine::Endpoint;
@@ -8,6 +11,7 @@ use machine::Phase;
 use machine::Slot;
 use slots::idled;
 use slots::phase_of;
+use slots::with_slot;
 
 // Assemblies are told apart by source and tag.
 fn is_from(source: u8, tag: u8, assembly: Assembly) -> bool
@@ -70,4 +74,17 @@ pub fn holder(endpoint: Endpoint, source: u8, tag: u8) -> Holder
 {
     let other = holder_in(source, tag, 1, phase_of(endpoint, 1), Holder::Nowhere);
     holder_in(source, tag, 0, phase_of(endpoint, 0), other)
+}
+
+// The slot is in Receive with this assembly.
+pub fn gathering_on(endpoint: Endpoint, slot: usize, assembly: Assembly) -> Endpoint
+    requires { ⌜ slot < 2 ⌝ }
+    ensures { λ r. ⌜ r ≡ withSlot endpoint slot (withPhase (slotAt endpoint slot) (Phase.Receive assembly)) ⌝ }
+{
+    let s = endpoint.slots[slot];
+    let receiving = Slot {
+        phase: Phase::Receive(assembly),
+        ..s
+    };
+    with_slot(endpoint, slot, receiving)
 }

@@ -15,6 +15,9 @@ use mctp::Route;
 
 const UNIT: usize = 64;
 
+// The ticket of the first command of a slot.
+const FIRST_TICKET: Ticket = Ticket(1);
+
 const LAST_TICKET: u32 = 0xFFFF_FFFF;
 
 fn say(text: &[u8]) {
@@ -204,14 +207,21 @@ fn send_all(
     tally
 }
 
+// A new endpoint with EID 8.
+fn fresh() -> Endpoint
+    ensures { λ r. ⌜ Valid r ⌝ }
+{
+    let done = endpoint::setup(8);
+    done.endpoint
+}
+
 // The answers to the packets of a message.
 fn packets_line(message: &[u8], store0: &mut [u8], store1: &mut [u8], count: usize)
     requires { ⌜ (unit * count < length (now message) + unit) × (count < 1000) ⌝ }
 {
-    let fresh = endpoint::setup(8);
     size(b"", count);
     say(b" packets: ");
-    print_tally(send_all(fresh.endpoint, store0, store1, message, count));
+    print_tally(send_all(fresh(), store0, store1, message, count));
     say(b"\n");
 }
 
@@ -251,14 +261,38 @@ fn request_size<'a>(endpoint: Endpoint, store0: &'a [u8], store1: &'a [u8], slot
     endpoint::request(endpoint, store0, store1, slot).len()
 }
 
-// An endpoint with an MI command in slot 0 that waits to be taken.
-fn waiting(store0: &mut [u8], store1: &mut [u8]) -> Endpoint
+// The endpoint after an MI command for slot 0.
+fn commanded(endpoint: Endpoint, store0: &mut [u8], store1: &mut [u8]) -> Endpoint
+    requires { ⌜ Valid endpoint ⌝ }
     ensures { λ r. ⌜ Valid r ⌝ }
 {
     let message = mi_command();
-    let fresh = endpoint::setup(8);
-    let done = send(fresh.endpoint, store0, store1, 1, &message, 0);
+    let done = send(endpoint, store0, store1, 1, &message, 0);
     done.endpoint
+}
+
+// An endpoint with an MI command in slot 0 that waits to be taken. Its ticket is the first, 1.
+fn waiting(store0: &mut [u8], store1: &mut [u8]) -> Endpoint
+    ensures { λ r. ⌜ Valid r ⌝ }
+{
+    commanded(fresh(), store0, store1)
+}
+
+// The endpoint after a take from slot 0.
+fn taken(endpoint: Endpoint) -> Endpoint
+    requires { ⌜ Valid endpoint ⌝ }
+    ensures { λ r. ⌜ Valid r ⌝ }
+{
+    endpoint::take(endpoint, 0).endpoint
+}
+
+// The ticket that a take from slot 0 gives.
+fn ticket_given(endpoint: Endpoint) -> Ticket
+    requires { ⌜ Valid endpoint ⌝ }
+{
+    let done = endpoint::take(endpoint, 0);
+    let given = done.answer;
+    ticket_of(given)
 }
 
 // The answer to a Get State for slot 0.
@@ -305,12 +339,12 @@ fn print_answers(received: u8, completed: u8, polled: u8, part: usize) {
 }
 
 // Each call that is lent both stores, with a command taken from slot 0.
-fn stores_line(endpoint: Endpoint, ticket: Ticket, store0: &mut [u8], store1: &mut [u8])
+fn stores_line(endpoint: Endpoint, store0: &mut [u8], store1: &mut [u8])
     requires { ⌜ Valid endpoint ⌝ }
 {
     let mut buffer = [0u8; 68];
     let received = receive_number(endpoint, store0, store1);
-    let completed = complete_number(endpoint, store0, store1, 0, ticket);
+    let completed = complete_number(endpoint, store0, store1, 0, FIRST_TICKET);
     let polled = poll_number(endpoint, store0, store1, &mut buffer);
     let part = request_size(endpoint, store0, store1, 0);
     size(b"stores ", store0.len());
@@ -323,17 +357,14 @@ fn stores_lines(store0: &mut [u8], store1: &mut [u8]) {
     let mut none = [0u8; 0];
     let mut short = [0u8; 4223];
     let mut long = [0u8; 4225];
-    let taken = endpoint::take(waiting(store0, store1), 0);
-    let given = taken.answer;
-    let ticket = ticket_of(given);
-    stores_line(taken.endpoint, ticket, &mut short, store1);
-    stores_line(taken.endpoint, ticket, store0, &mut long);
-    stores_line(taken.endpoint, ticket, &mut empty, &mut none);
+    let endpoint = taken(waiting(store0, store1));
+    stores_line(endpoint, &mut short, store1);
+    stores_line(endpoint, store0, &mut long);
+    stores_line(endpoint, &mut empty, &mut none);
 }
 
 fn buffer_line(store0: &mut [u8], store1: &mut [u8], buffer: &mut [u8]) {
-    let fresh = endpoint::setup(8);
-    let polled = poll_number(fresh.endpoint, store0, store1, buffer);
+    let polled = poll_number(fresh(), store0, store1, buffer);
     size(b"buffer ", buffer.len());
     answer(b": ", polled);
     say(b"\n");
@@ -348,26 +379,37 @@ fn buffer_lines(store0: &mut [u8], store1: &mut [u8]) {
 
 fn untaken_line(store0: &mut [u8], store1: &mut [u8]) {
     let endpoint = waiting(store0, store1);
-    let slot = endpoint.slots[0];
     answer(
         b"untaken: ",
-        complete_number(endpoint, store0, store1, 0, slot.ticket),
+        complete_number(endpoint, store0, store1, 0, FIRST_TICKET),
     );
     say(b"\n");
 }
 
+// Each call that takes a slot's number, on a new endpoint.
+fn slot_take(slot: usize) -> u8 {
+    let done = endpoint::take(fresh(), slot);
+    let given = done.answer;
+    take_number(given)
+}
+
+fn slot_complete(store0: &mut [u8], store1: &mut [u8], slot: usize) -> u8 {
+    complete_number(fresh(), store0, store1, slot, Ticket(0))
+}
+
+fn slot_timeout(slot: usize) -> u8 {
+    endpoint::timeout(fresh(), slot).answer
+}
+
+fn slot_request<'a>(store0: &'a [u8], store1: &'a [u8], slot: usize) -> usize {
+    request_size(fresh(), store0, store1, slot)
+}
+
 fn slot_line(store0: &mut [u8], store1: &mut [u8]) {
-    let fresh = endpoint::setup(8);
-    let endpoint = fresh.endpoint;
-    let taken = endpoint::take(endpoint, 2);
-    let given = taken.answer;
-    let completed = complete_number(endpoint, store0, store1, 2, Ticket(0));
-    let ended = endpoint::timeout(endpoint, 2);
-    let part = request_size(endpoint, store0, store1, 2);
-    answer(b"slot 2: take ", take_number(given));
-    answer(b", complete ", completed);
-    answer(b", timeout ", ended.answer);
-    size(b", request ", part);
+    answer(b"slot 2: take ", slot_take(2));
+    answer(b", complete ", slot_complete(store0, store1, 2));
+    answer(b", timeout ", slot_timeout(2));
+    size(b", request ", slot_request(store0, store1, 2));
     say(b" bytes\n");
 }
 
@@ -386,16 +428,14 @@ fn request_lines(store0: &mut [u8], store1: &mut [u8]) {
         request_size(endpoint, store0, store1, 0),
     );
     say(b" bytes\n");
-    let taken = endpoint::take(endpoint, 0);
-    print_request(taken.endpoint, store0, store1);
+    print_request(taken(endpoint), store0, store1);
 }
 
 // A new endpoint, but for slot 0's ticket count, which is the last before it goes back to 0.
 fn before_wrap() -> Endpoint
     ensures { λ r. ⌜ Valid r ⌝ }
 {
-    let fresh = endpoint::setup(8);
-    let mut anew = fresh.endpoint;
+    let mut anew = fresh();
     anew.slots[0] = Slot {
         ticket: Ticket(LAST_TICKET),
         paused: false,
@@ -406,11 +446,7 @@ fn before_wrap() -> Endpoint
 }
 
 fn ticket_line(store0: &mut [u8], store1: &mut [u8]) {
-    let message = mi_command();
-    let done = send(before_wrap(), store0, store1, 1, &message, 0);
-    let taken = endpoint::take(done.endpoint, 0);
-    let given = taken.answer;
-    let ticket = ticket_of(given);
+    let ticket = ticket_given(commanded(before_wrap(), store0, store1));
     say(b"ticket after 4294967295: ");
     io::print_decimal(1, wide(ticket.0));
     say(b"\n");

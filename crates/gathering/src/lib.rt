@@ -6,13 +6,12 @@ ghost use Rattle.machine.specs.State.{world, outcome, storeAt};
 ghost use Rattle.machine.specs.Wire.{unit, store-size};
 ghost use Rattle.machine.specs.Valid.{Valid};
 ghost use Rattle.machine.specs.Receive.{checked as Receive·checked, joined as Receive·joined, gathered as Receive·gathered, firstCommand, laterAt, later as Receive·later};
+use assembly::gathering_on;
 use assembly::holder;
 use machine::Assembly;
 use machine::Done;
 use machine::Endpoint;
 use machine::Holder;
-use machine::Phase;
-use machine::Slot;
 use mctp::Header;
 use process::entered;
 use refusing::refused;
@@ -24,7 +23,6 @@ use slots::ended;
 use slots::is_idle;
 use slots::phase_of;
 use slots::store_of;
-use slots::with_slot;
 
 // A command that is whole: with a wrong check it is refused and its slot goes to Idle, else the slot enters Process.
 fn checked(
@@ -63,12 +61,7 @@ fn joined(
     if eom {
         return checked(endpoint, store0, store1, slot, assembly);
     }
-    let s = endpoint.slots[slot];
-    let receiving = Slot {
-        phase: Phase::Receive(assembly),
-        ..s
-    };
-    ended(0, with_slot(endpoint, slot, receiving))
+    ended(0, gathering_on(endpoint, slot, assembly))
 }
 
 // A command's packet that is not refused: its payload goes behind the bytes so far.

@@ -13,10 +13,9 @@ returns c =
 
 returns-2 : tie.Need-returns-2
 unfolding joined
-returns-2 c = rw (c .ended .ensures, c .before .with-slot .ensures, c .before .before .before .before .if1 .left)
+returns-2 c = rw (c .ended .ensures, c .before .gathering-on .ensures, c .before .before .if1 .left)
 
 pub joined-spec : {M : Type 1} → statement M
 joined-spec =
     tie.close
-    (tie.spec (λ c κs. search needs) (λ c. search needs) (λ c. search needs) returns (λ c. search needs) (λ c. search needs)
-    (λ c κs. search needs) (λ c κs. search needs) returns-2)
+    (tie.spec (λ c κs. search needs) (λ c. search needs) (λ c. search needs) returns (λ c κs. search needs) (λ c κs. search needs) returns-2)
