@@ -1,27 +1,19 @@
-// Gathering a command in its slot: its first packet, a later one, and the whole.
+// Gathering a command in its slot: a packet's payload behind the bytes so far, and the command once it is whole.
 ghost use mathlib.Core.Path.{_≡_};
 ghost use Prim.Native.Nat.{_+_, _≤_, _<_};
 ghost use lib.ListN.{length, take};
 ghost use Rattle.machine.specs.State.{world, outcome, storeAt};
-ghost use Rattle.machine.specs.Wire.{unit, store-size};
-ghost use Rattle.machine.specs.Valid.{Valid};
-ghost use Rattle.machine.specs.Receive.{checked as Receive·checked, joined as Receive·joined, gathered as Receive·gathered, firstCommand, laterAt, later as Receive·later};
+ghost use Rattle.machine.specs.Wire.{store-size};
+ghost use Rattle.machine.specs.Receive.{checked as Receive·checked, joined as Receive·joined, gathered as Receive·gathered};
 use assembly::gathering_on;
-use assembly::holder;
 use machine::Assembly;
 use machine::Done;
 use machine::Endpoint;
-use machine::Holder;
 use mctp::Header;
 use process::entered;
 use refusing::refused;
-use refusing::refused_busy;
-use slots::STORE_SIZE;
-use slots::UNIT;
 use slots::dropped;
 use slots::ended;
-use slots::is_idle;
-use slots::phase_of;
 use slots::store_of;
 
 // A command that is whole: with a wrong check it is refused and its slot goes to Idle, else the slot enters Process.
@@ -65,7 +57,7 @@ fn joined(
 }
 
 // A command's packet that is not refused: its payload goes behind the bytes so far.
-fn gathered(
+pub fn gathered(
     endpoint: Endpoint,
     store0: &mut [u8],
     store1: &mut [u8],
@@ -89,78 +81,4 @@ fn gathered(
         length: at + payload.len(),
     };
     joined(endpoint, store0, store1, slot, assembly, header.eom)
-}
-
-// A command's first packet.
-pub fn first_command(
-    endpoint: Endpoint,
-    store0: &mut [u8],
-    store1: &mut [u8],
-    header: Header,
-    slot: usize,
-    message: &[u8],
-) -> Done
-    requires { ⌜ (length (now store0) ≡ store-size) × (length (now store1) ≡ store-size) × (slot < 2) × (length (now message) ≤ unit) ⌝ }
-    ensures { λ r. ⌜ outcome (r .answer) (world (r .endpoint) (now (store0 .exit)) (now (store1 .exit))) ≡ firstCommand (world endpoint (now (store0 .entry)) (now (store1 .entry))) header slot (now (message .entry)) ⌝ }
-{
-    if !is_idle(phase_of(endpoint, slot)) {
-        return refused_busy(endpoint, slot);
-    }
-    gathered(endpoint, store0, store1, slot, 0, header, message)
-}
-
-// SOM 0, for the slot that gathers under this source and tag: 22, 16 and 23 send it to Idle.
-fn later_at(
-    endpoint: Endpoint,
-    store0: &mut [u8],
-    store1: &mut [u8],
-    slot: usize,
-    assembly: Assembly,
-    header: Header,
-    payload: &[u8],
-    refusal: u8,
-) -> Done
-    requires { ⌜ (length (now store0) ≡ store-size) × (length (now store1) ≡ store-size) × (slot < 2) × (refusal ≡ 0 → assembly .length + length (now payload) ≤ store-size) ⌝ }
-    ensures { λ r. ⌜ outcome (r .answer) (world (r .endpoint) (now (store0 .exit)) (now (store1 .exit))) ≡ laterAt (world endpoint (now (store0 .entry)) (now (store1 .entry))) slot assembly header (now (payload .entry)) refusal ⌝ }
-{
-    if refusal == 0 {
-        let at = assembly.length;
-        return gathered(endpoint, store0, store1, slot, at, header, payload);
-    }
-    refused(dropped(endpoint, slot), refusal)
-}
-
-// SOM 0.
-pub fn later(
-    endpoint: Endpoint,
-    store0: &mut [u8],
-    store1: &mut [u8],
-    header: Header,
-    payload: &[u8],
-) -> Done
-    requires { ⌜ (length (now store0) ≡ store-size) × (length (now store1) ≡ store-size) × Valid endpoint ⌝ }
-    ensures { λ r. ⌜ outcome (r .answer) (world (r .endpoint) (now (store0 .exit)) (now (store1 .exit))) ≡ Receive·later (world endpoint (now (store0 .entry)) (now (store1 .entry))) header (now (payload .entry)) ⌝ }
-{
-    let found = holder(endpoint, header.source, header.tag);
-    let Holder::At(slot, assembly) = found else {
-        return refused(endpoint, 21);
-    };
-    let refusal = mctp::join_refusal(
-        UNIT,
-        STORE_SIZE,
-        assembly.sequence,
-        assembly.length,
-        header,
-        payload.len(),
-    );
-    later_at(
-        endpoint,
-        store0,
-        store1,
-        slot,
-        assembly,
-        header,
-        payload,
-        refusal,
-    )
 }

@@ -1,12 +1,12 @@
--- `gathering::later_at` meets its contract: 0 joins, any other number drops the slot.
+-- `commands::later_at` meets its contract: 0 joins, any other number drops the slot.
 -- Assumes nothing.
 use mathlib.Core.Path.{_∙_}
 use native.Mathlib.Omega.{arith}
 use borrow.Author.Needs.{needs}
 use borrow.Author.Tests.{eq-eqb, ne-eqb}
 use Rattle.machine.specs.Receive.{laterAt}
-use Rattle.gathering.proofs.later_at.Statement.{statement}
-use Rattle.gathering.proofs.later_at.Tie as tie
+use Rattle.commands.proofs.later_at.Statement.{statement}
+use Rattle.commands.proofs.later_at.Tie as tie
 
 gathered-requires : tie.Need-gathered-requires
 gathered-requires c κs =

@@ -1,17 +1,30 @@
--- `gathering::later` meets its contract: the slot that gathers under this source and tag is one of the two, and has room for
+-- `commands::later` meets its contract: the slot that gathers under this source and tag is one of the two, and has room for
 -- what joins.
 -- Assumes nothing.
-use Prim.Native.Nat.{_≤_}
-use mathlib.Core.Path.{sym, _∙_}
+use Prim.Native.Nat.{ℕ, _≤_}
+use mathlib.Core.Path.{_≡_, sym, _∙_}
 use native.Mathlib.Omega.{arith}
 use lib.ListN.{length}
 use borrow.Author.Needs.{needs}
-use Rattle.machine.specs.Receive.{later}
+use Rattle.machine.specs.State.{slotAt}
+use Rattle.machine.specs.Receive.{holder, later}
+use Rattle.machine.specs.Valid.{Valid, PhaseFacts}
+use Rattle.machine.specs.declared.Assembly.{Assembly}
+use Rattle.machine.specs.declared.Endpoint.{Endpoint}
+use Rattle.machine.specs.declared.Phase.the-variants.{Receive}
+use Rattle.machine.specs.declared.Holder.the-variants.{At}
+use Rattle.machine.proofs.Slots.{facts-at, holder-at}
 use Rattle.machine.specs.Wire.{store-size}
-use Rattle.gathering.proofs.Sizes.{held}
 use Rattle.machine.proofs.Receiving.{joins}
-use Rattle.gathering.proofs.later.Statement.{statement}
-use Rattle.gathering.proofs.later.Tie as tie
+use Rattle.commands.proofs.later.Statement.{statement}
+use Rattle.commands.proofs.later.Tie as tie
+
+-- the slot that gathers under a source and tag, and its bytes so far
+held : (e : Endpoint) → Valid e → (source tag : ℕ) {i : ℕ} {a : Assembly} → holder e source tag ≡ At i a → (i ≤ 1) × (a .length ≤ store-size)
+held e v source tag {i} {a} h =
+    let k = holder-at e source tag h in
+    let facts : PhaseFacts (slotAt e i .paused) (Receive a) = rw (k .gathers-it) at (facts-at i (k .slot-is) v) in
+    (k .slot-is, facts .1)
 
 found-at : (f : tie.After-found) → (f .found .given .0 .0 ≤ 1) × (f .found .given .0 .1 .0 .length ≤ store-size)
 found-at f =

@@ -1,12 +1,12 @@
--- `gathering::first_command` meets its contract: 20 by the slot's phase, else `gathered` from place 0.
+-- `commands::first_command` meets its contract: 20 by the slot's phase, else `gathered` from place 0.
 -- Assumes nothing.
 use mathlib.Core.Bool.{not}
 use mathlib.Core.Path.{_≡_, sym, ap, _∙_}
 use borrow.Author.Needs.{needs}
 use Rattle.machine.specs.Receive.{firstCommand}
 use Rattle.machine.specs.State.{slotAt, isIdle}
-use Rattle.gathering.proofs.first_command.Statement.{statement}
-use Rattle.gathering.proofs.first_command.Tie as tie
+use Rattle.commands.proofs.first_command.Statement.{statement}
+use Rattle.commands.proofs.first_command.Tie as tie
 
 -- the phase that is asked is the slot's
 idle-slot : (k : tie.After-is-idle) → let a = k .before .before .before .before .before .args in k .is-idle .result ≡ isIdle (slotAt (a .endpoint) (a .slot) .phase)
