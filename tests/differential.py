@@ -10,6 +10,8 @@ equal outputs say little about a state that no log has seen. The exit status is 
 output is equal and everything was reached.
 """
 import collections
+import concurrent.futures
+import functools
 import io
 import pathlib
 import subprocess
@@ -41,6 +43,12 @@ def difference(program, log, expected):
         return f"exit status {ran.returncode}, standard error {ran.stderr[:200]!r}"
     return None
 
+def random_log(program, count, seed):
+    """What the log of this seed reached, what is wrong with the program's output, and its lines."""
+    log, run = generate(seed, count)
+    expected = expected_output(log)
+    return run.reached, difference(program, log, expected), expected.count(b"\n")
+
 def main(program, logs=200, count=2000):
     program = str(pathlib.Path(program).resolve())
     reached, faults, lines = collections.Counter(), [], 0
@@ -53,12 +61,12 @@ def main(program, logs=200, count=2000):
         faults += [f"{path.name}: {text}" for text in [difference(program, log, kept)] if text]
         lines += kept.count(b"\n")
     by_stored = len(reached)
-    for seed in range(logs):
-        log, run = generate(seed, count)
-        expected = expected_output(log)
-        reached.update(run.reached)
-        faults += [f"seed {seed}: {text}" for text in [difference(program, log, expected)] if text]
-        lines += expected.count(b"\n")
+    with concurrent.futures.ProcessPoolExecutor() as pool:
+        results = pool.map(functools.partial(random_log, program, count), range(logs))
+        for seed, (goals, text, printed) in enumerate(results):
+            reached.update(goals)
+            faults += [f"seed {seed}: {text}"] if text else []
+            lines += printed
     for goal in GOALS:
         print(f"{reached[goal]:5} logs: {goal}")
     missing = [goal for goal in GOALS if not reached[goal]]
