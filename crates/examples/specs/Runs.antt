@@ -2,9 +2,9 @@
 -- Assumes nothing.
 use Prim.Native.Nat.{ℕ, zero, suc, _+_, _*_, _≤_}
 use mathlib.Core.Path.{_≡_, refl}
-use mathlib.Core.Bool.{Bool, true, false}
+use mathlib.Core.Bool.{true}
 use mathlib.Core.List.{List, [], _∷_, _++_}
-use lib.ListN.{length, take, drop, replicate}
+use lib.ListN.{length, take, replicate}
 use Rattle.crc32c.specs.Crc32c.{crc32c, reflect, register, steps, step}
 use Rattle.mctp.specs.Header.{readHeader}
 use Rattle.mctp.specs.Cut.{packet as cutPacket}
@@ -14,8 +14,8 @@ use Rattle.nvme_mi.specs.Check.{checkRight, withCheck}
 use Rattle.nvme_mi.specs.Response.{response}
 use Rattle.machine.specs.State.{ticket}
 use Rattle.machine.specs.Wire.{store-size}
-use Rattle.machine.specs.Calls.{Call, receive, take!, complete, poll}
-use Rattle.examples.specs.Examples.{packet, mi-20, control, pause, get-state, taking, polling}
+use Rattle.machine.specs.Calls.{Call, take!, complete}
+use Rattle.examples.specs.Examples.{packet, mi-20, control, pause, get-state, polling}
 use Rattle.machine.specs.History.{History, phaseAt, isTransmit, run, start, packetsLeft}
 use Rattle.machine.specs.Demands.{Fate, cut, delivered, open!, fate}
 

@@ -1,8 +1,8 @@
 -- Laws of the choice: what holds of both answers holds of the choice; a choice that is known not to be its first answer is its second.
 -- Assumes nothing.
 use Prim.Native.Nat.{ℕ}
-use mathlib.Core.Path.{_≡_, refl, sym, _∙_}
-use mathlib.Core.Bool.{Bool, true, false, not, _&&_, _||_}
+use mathlib.Core.Path.{_≡_, refl, _∙_}
+use mathlib.Core.Bool.{Bool, true, false, _&&_, _||_}
 use native.Mathlib.Omega.{arith}
 use Rattle.lent.specs.Choice.{if_then_else_}
 
@@ -13,10 +13,6 @@ if-ind P false f g = g refl
 pub if-second {ℓ} : {A : Type ℓ} (b : Bool) {x y z : A} → (x ≡ z → ⊥) → _≡_ (if b then x else y) z → (b ≡ false) × (y ≡ z)
 if-second true n e = absurd (n e)
 if-second false n e = (refl, e)
-
-pub if-first {ℓ} : {A : Type ℓ} (b : Bool) {x y z : A} → (y ≡ z → ⊥) → _≡_ (if b then x else y) z → (b ≡ true) × (x ≡ z)
-if-first true n e = (refl, e)
-if-first false n e = absurd (n e)
 
 -- ---- tests joined
 

@@ -5,7 +5,6 @@ use mathlib.Core.Path.{_≡_, refl}
 use mathlib.Core.List.{List}
 use lib.Dec.{eqb}
 use lib.ListN.{length}
-use Rattle.lent.specs.Bytes.{put}
 use Rattle.lent.proofs.Choice.{if-ind}
 use Rattle.machine.specs.Valid.{Valid}
 use Rattle.machine.specs.declared.TakeAnswer.{TakeAnswer}

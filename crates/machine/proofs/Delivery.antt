@@ -2,23 +2,23 @@
 -- Assumes nothing.
 use Prim.Native.Nat.{ℕ, zero, suc, _+_, _-_, _*_, _/_, _%_, _^_, _≤_, _<_}
 use mathlib.Core.Path.{_≡_, refl, sym, ap, _∙_}
-use mathlib.Core.Bool.{Bool, true, false, not, _&&_, _||_}
+use mathlib.Core.Bool.{Bool, true, false, _&&_, _||_}
 use mathlib.Core.List.{List, [], _∷_, _++_}
 use native.Mathlib.Omega.{arith}
-use lib.Dec.{eqb, leb, ltb}
+use lib.Dec.{eqb}
 use lib.ListN.{length, take}
 use lib.Seq.{take-all}
-use borrow.Author.Tests.{eq-eqb, ne-eqb, eqb-true, eqb-false, ltb-true, lt-ltb}
+use borrow.Author.Tests.{eq-eqb, ne-eqb, eqb-true, eqb-false, lt-ltb}
 use Rattle.lent.specs.Choice.{if_then_else_}
 use Rattle.lent.proofs.Choice.{if-ind, false-true, both-and}
 use Rattle.mctp.specs.Cut.{packets}
 use Rattle.mctp.proofs.Laws.{packets-bounds, packets-most, packets-cover}
 use Rattle.machine.specs.State.{World, slotAt, storeAt, withSlot, withEndpoint, withPhase, replySent, packetSent, idled}
-use Rattle.machine.specs.Wire.{unit, store-size}
+use Rattle.machine.specs.Wire.{unit}
 use Rattle.machine.specs.Finish.{taken}
 use Rattle.machine.specs.Poll.{otherSlot, sendingOr, hasBegun, begunOr, chosen, isLast, advanced, afterPacket, controlPacket, commandPacket}
-use Rattle.machine.specs.Valid.{phased, isBegun, Fits, PhaseFacts, Valid, Sound}
-use Rattle.machine.specs.Calls.{Call, receive, take!, read, complete, poll, timeout, reset, Event, number, given, handed-out, Stepped, stepped, takeEvent, step}
+use Rattle.machine.specs.Valid.{phased, isBegun, Fits, PhaseFacts, Valid}
+use Rattle.machine.specs.Calls.{Call, receive, take!, read, complete, poll, timeout, reset, number, handed-out, Stepped, stepped, takeEvent, step}
 use Rattle.machine.specs.History.{Log, History, phaseAt, isTransmit, moved, isPacketOf, transmitted, logAfter, counts, one?, next, run, start, cuts, packetsLeft, lastPacketOut}
 use Rattle.machine.specs.Demands.{Fate, cut, delivered, open!, fate, Within, pollsFor, Demand3, AtMost264}
 use Rattle.machine.specs.declared.Request.{Request}
@@ -31,12 +31,11 @@ use Rattle.machine.specs.declared.TakeAnswer.{TakeAnswer}
 use Rattle.machine.specs.declared.TakeAnswer.the-variants.{Refused, Given}
 use Rattle.machine.specs.declared.Ready.{Ready}
 use Rattle.machine.specs.declared.Ready.the-variants.{Nothing, From}
-use Rattle.machine.proofs.Slots.{isEarly, facts-at, slot-facts, other-most}
+use Rattle.machine.proofs.Slots.{facts-at, slot-facts, other-most}
 use Rattle.machine.proofs.Keeps.{Chosen, chosen-at}
 use Rattle.machine.proofs.Places.{Which, this, that, which, other-differs, other-back, slot-this, slot-that}
-use Rattle.machine.proofs.Fits.{Going, Fit, Steady, same, newly, released, worked, fell, Carried}
-use Rattle.machine.proofs.Received.{Carries}
-use Rattle.machine.proofs.Polling.{PollCase, still, replies, sends, poll-case, PollKept, unmoved, moved-same, onward, onward-logs, onward-moves, sentLog, joined}
+use Rattle.machine.proofs.Fits.{Going, Steady, same, newly, released, worked, fell}
+use Rattle.machine.proofs.Polling.{PollCase, still, replies, sends, poll-case, moved-same, onward, onward-logs, onward-moves, sentLog, joined}
 use Rattle.machine.proofs.Histories.{Good, isPlain, plain-carries, good-next, good-every}
 
 -- ---- packets left, and what may go before

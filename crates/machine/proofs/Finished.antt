@@ -1,27 +1,27 @@
 -- What taking, reading, completing, a timeout and a reset do to each slot, its store and its log.
 -- Assumes nothing.
 use Prim.Native.Nat.{ℕ, zero, suc, _+_, _-_, _*_, _/_, _%_, _^_, _≤_, _<_}
-use mathlib.Core.Path.{_≡_, refl, sym, ap, _∙_}
-use mathlib.Core.Bool.{Bool, true, false, not, _&&_, _||_}
-use mathlib.Core.List.{List, [], _∷_, _++_}
+use mathlib.Core.Path.{_≡_, refl, sym, _∙_}
+use mathlib.Core.Bool.{true, false, not, _&&_, _||_}
+use mathlib.Core.List.{List, _∷_, _++_}
 use native.Mathlib.Omega.{arith}
-use lib.Dec.{eqb, ltb}
-use lib.ListN.{length, take, drop}
-use borrow.Author.Tests.{eq-eqb, ne-eqb, not-false, not-true}
+use lib.Dec.{eqb}
+use lib.ListN.{length, take}
+use borrow.Author.Tests.{eq-eqb, ne-eqb, not-false}
 use Rattle.lent.specs.Choice.{if_then_else_}
 use Rattle.lent.specs.Bytes.{put}
 use Rattle.lent.proofs.Choice.{if-ind, or-left, false-true}
 use Rattle.lent.proofs.Stores.{take-put}
 use Rattle.nvme_mi.specs.Response.{response}
 use Rattle.nvme_mi.proofs.Laws.{length-response}
-use Rattle.machine.specs.State.{World, Outcome, outcome, slotAt, storeAt, withSlot, withStore, withEndpoint, withPhase, idled, settled, fresh}
+use Rattle.machine.specs.State.{World, Outcome, outcome, slotAt, storeAt, withSlot, withStore, withEndpoint, withPhase, idled, settled}
 use Rattle.machine.specs.Wire.{response-place, wrongStores}
 use Rattle.machine.specs.Process.{responseTo, responded}
 use Rattle.machine.specs.Finish.{isSlot, takenRequest, takenRow, takenFrom, taken, isBody, isPresent, completedRow, completedIn, completed, isReceive, timedOut, wasReset}
 use Rattle.machine.specs.Poll.{otherSlot}
 use Rattle.machine.specs.Valid.{Valid, Sound}
-use Rattle.machine.specs.Calls.{Call, take!, read, complete, timeout, reset, Event, number, given, Stepped, stepped, byOutcome, byDone, byTake, step}
-use Rattle.machine.specs.History.{Log, phaseAt, completing, commanded, transmitted, logAfter, cuts}
+use Rattle.machine.specs.Calls.{take!, read, complete, timeout, number, given, stepped, byOutcome, byDone, byTake, step}
+use Rattle.machine.specs.History.{Log, phaseAt, completing, commanded, transmitted}
 use Rattle.machine.specs.declared.Ticket.{Ticket}
 use Rattle.machine.specs.declared.Taking.{Taking}
 use Rattle.machine.specs.declared.Taking.the-variants.{Untaken, Taken}
@@ -29,7 +29,6 @@ use Rattle.machine.specs.declared.Request.{Request}
 use Rattle.machine.specs.declared.Phase.{Phase}
 use Rattle.machine.specs.declared.Phase.the-variants.{Idle, Receive, Process, Answered, Transmit}
 use Rattle.machine.specs.declared.Slot.{Slot}
-use Rattle.machine.specs.declared.Endpoint.{Endpoint}
 use Rattle.machine.specs.declared.Done.{Done}
 use Rattle.machine.specs.declared.TakeDone.{TakeDone}
 use Rattle.machine.proofs.Slots.{isEarly, other-most}

@@ -1,12 +1,12 @@
 -- How a slot, its store and the history's log of it fit together, and what one call may do to them.
 -- Assumes nothing.
-use Prim.Native.Nat.{ℕ, zero, suc, _+_, _-_, _*_, _/_, _%_, _^_, _≤_, _<_}
-use mathlib.Core.Path.{_≡_, refl, sym, ap, _∙_}
+use Prim.Native.Nat.{ℕ, _+_, _-_, _*_, _/_, _%_, _^_, _≤_, _<_}
+use mathlib.Core.Path.{_≡_, refl, sym, _∙_}
 use mathlib.Core.Bool.{Bool, true, false, not, _&&_, _||_}
 use mathlib.Core.List.{List, [], _∷_, _++_}
 use native.Mathlib.Nat.{mod-lt, mod-eq-of-lt, zero-lt-suc}
 use native.Mathlib.Omega.{arith}
-use lib.Dec.{eqb, ltb}
+use lib.Dec.{ltb}
 use lib.ListN.{length, take}
 use borrow.Author.Tests.{ne-eqb}
 use Rattle.lent.specs.Choice.{if_then_else_}
@@ -14,14 +14,13 @@ use Rattle.lent.specs.Bytes.{byteAt, isSet}
 use Rattle.lent.proofs.Choice.{false-true}
 use Rattle.nvme_mi.specs.Message.{messageHeader, isKnown, commandFault}
 use Rattle.nvme_mi.specs.Response.{response, faultBody}
-use Rattle.nvme_mi.specs.Check.{withCheck}
 use Rattle.nvme_mi.specs.declared.Fault.{Fault}
 use Rattle.nvme_mi.specs.declared.Fault.the-variants.{NoFault, Parameter, Failure}
 use Rattle.machine.specs.State.{World, settled}
 use Rattle.machine.specs.Wire.{unit}
-use Rattle.machine.specs.Calls.{Call, receive, Event, number}
+use Rattle.machine.specs.Calls.{receive, number}
 use Rattle.machine.specs.Valid.{isBegun}
-use Rattle.machine.specs.History.{Log, isTransmit, kindOf, responseFor, leastLength, fixedAtEntry, isFor, gaining, entering, commanded, sending, transmitted}
+use Rattle.machine.specs.History.{Log, isTransmit, kindOf, responseFor, leastLength, fixedAtEntry, commanded, sending, transmitted}
 use Rattle.machine.specs.Demands.{isProcess}
 use Rattle.machine.specs.declared.Request.{Request}
 use Rattle.machine.specs.declared.Response.{Response}

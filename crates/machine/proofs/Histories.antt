@@ -1,23 +1,23 @@
 -- What holds of every history: the world is sound, and each slot, its store and its log fit.
 -- Assumes nothing.
 use Prim.Native.Nat.{ℕ, zero, suc, _+_, _-_, _*_, _/_, _%_, _^_, _≤_, _<_}
-use mathlib.Core.Path.{_≡_, refl, sym, ap, _∙_}
-use mathlib.Core.Bool.{Bool, true, false, not, _&&_, _||_}
+use mathlib.Core.Path.{_≡_, refl, _∙_}
+use mathlib.Core.Bool.{Bool, true, false, _&&_, _||_}
 use mathlib.Core.List.{List, [], _∷_, _++_}
 use native.Mathlib.Omega.{arith}
 use lib.Dec.{ltb}
 use lib.ListN.{length}
 use Rattle.lent.proofs.Choice.{if-ind, false-true}
-use Rattle.machine.specs.State.{World, slotAt, storeAt, fresh, ticket}
+use Rattle.machine.specs.State.{slotAt, storeAt, fresh, ticket}
 use Rattle.machine.specs.Wire.{store-size}
 use Rattle.machine.specs.Finish.{wasSetUp}
 use Rattle.machine.specs.Valid.{Sound}
-use Rattle.machine.specs.Calls.{Call, receive, take!, read, complete, poll, timeout, reset, Stepped, step, begin}
+use Rattle.machine.specs.Calls.{Call, receive, take!, read, complete, poll, timeout, reset, step, begin}
 use Rattle.machine.specs.History.{Log, History, logAfter, next, run, start}
 use Rattle.machine.specs.declared.Slot.{Slot}
 use Rattle.machine.specs.declared.Done.{Done}
 use Rattle.machine.proofs.Keeps.{begin-valid, step-sound}
-use Rattle.machine.proofs.Fits.{Fit, Entry, Carried}
+use Rattle.machine.proofs.Fits.{Fit, Carried}
 use Rattle.machine.proofs.Received.{Carries, received-carries}
 use Rattle.machine.proofs.Finished.{take-carries, read-carries, complete-carries, timeout-carries, reset-carried}
 use Rattle.machine.proofs.Polling.{PollKept, poll-kept}

@@ -1,17 +1,17 @@
 -- The invariant as a test and the invariant as facts say the same.
 -- Assumes nothing.
-use Prim.Native.Nat.{ℕ, zero, suc, _*_, _/_, _%_, _^_, _≤_, _<_}
-use mathlib.Core.Path.{_≡_, refl, sym, ap, _∙_}
+use Prim.Native.Nat.{ℕ, _*_, _/_, _%_, _^_, _≤_, _<_}
+use mathlib.Core.Path.{_≡_, refl, _∙_}
 use mathlib.Core.Bool.{Bool, true, false, not, _&&_, _||_}
 use mathlib.Core.List.{List, [], _∷_}
-use lib.Dec.{eqb, leb, ltb}
+use lib.Dec.{eqb, leb}
 use lib.ListN.{length}
 use borrow.Author.Tests.{ltb-true, leb-true, eqb-true, lt-ltb, le-leb, eq-eqb, not-true}
 use Rattle.lent.proofs.Choice.{false-true, and-both, both-and}
 use Rattle.machine.specs.State.{isIdle}
 use Rattle.machine.specs.Wire.{unit, store-size, smallest}
 use Rattle.machine.specs.Poll.{otherSlot}
-use Rattle.machine.specs.Valid.{smallest-response, between, phased, unpausedIdle, gatheredFits, apart, packetLeft, messageFits, waitsPaused, isBegun, begunTurn, flagsRight, allOf, clauses, validWith, valid, Fits, PhaseFacts, ValidSlot, ValidSlots, two, ValidFlags, Valid}
+use Rattle.machine.specs.Valid.{smallest-response, between, phased, unpausedIdle, gatheredFits, packetLeft, messageFits, waitsPaused, isBegun, begunTurn, allOf, clauses, validWith, valid, PhaseFacts, ValidSlots, two, Valid}
 use Rattle.machine.specs.declared.Phase.{Phase}
 use Rattle.machine.specs.declared.Phase.the-variants.{Idle, Receive, Process, Answered, Transmit}
 use Rattle.machine.specs.declared.Slot.{Slot}

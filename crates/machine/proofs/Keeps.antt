@@ -1,12 +1,12 @@
 -- Setup's state has the invariant, and every call's definition keeps it, whatever the call is given.
 -- Assumes nothing.
 use Prim.Native.Nat.{ℕ, zero, suc, _+_, _-_, _*_, _/_, _%_, _^_, _≤_, _<_}
-use mathlib.Core.Path.{_≡_, refl, sym, ap, _∙_}
+use mathlib.Core.Path.{_≡_, refl, sym, _∙_}
 use mathlib.Core.Bool.{Bool, true, false, not, _&&_, _||_}
 use mathlib.Core.List.{List, [], _∷_, _++_}
 use native.Mathlib.Omega.{arith}
 use lib.Bits.{bitOr, or-mod, or-shr}
-use lib.Dec.{eqb, leb, ltb}
+use lib.Dec.{eqb, ltb}
 use lib.ListN.{length, take, getD, set}
 use borrow.Author.Tests.{ltb-false, ltb-true, eqb-true, eqb-false, not-true, not-false}
 use Rattle.lent.specs.Choice.{if_then_else_}
@@ -18,17 +18,17 @@ use Rattle.mctp.specs.declared.Header.{Header}
 use Rattle.mctp.specs.Cut.{packets}
 use Rattle.mctp.proofs.Laws.{packets-bounds}
 use Rattle.nvme_mi.specs.Message.{control, messageHeader, commandFault, controlFault}
-use Rattle.nvme_mi.specs.Response.{response, faultBody, successBody}
-use Rattle.nvme_mi.proofs.Laws.{length-response, faultBody-length, successBody-length}
+use Rattle.nvme_mi.specs.Response.{response, faultBody}
+use Rattle.nvme_mi.proofs.Laws.{length-response}
 use Rattle.nvme_mi.specs.declared.MessageHeader.{MessageHeader}
 use Rattle.nvme_mi.specs.declared.Fault.{Fault}
 use Rattle.nvme_mi.specs.declared.Fault.the-variants.{NoFault, Parameter, Failure}
-use Rattle.machine.specs.State.{World, Outcome, slotAt, storeAt, withSlot, withSlots, withFlags, withReply, withStore, withEndpoint, onSlot, onBoth, withPhase, withPaused, withBusy, idled, isIdle, fresh, ticket, settled, replySent, packetSent}
-use Rattle.machine.specs.Wire.{unit, store-size, response-place, smallest, packet-room, wrongStores, opcodeOf, tagOf, clearsFlags}
-use Rattle.machine.specs.Control.{pausedSlot, pause, resumedSlot, released, resume, abort, clearFlags, primitive, replied, repliedActed, controlledBy, controlled}
-use Rattle.machine.specs.Process.{request, processing, responseTo, responded, respondedAtOnce, pausedIf, entered}
-use Rattle.machine.specs.Receive.{refused, refusedBusy, raised, flagOf, maskIn, dropped, gathers, endedSlot, endAssembly, received}
-use Rattle.machine.specs.Finish.{isSlot, takenRow, takenFrom, taken, isBody, isPresent, completedRow, completedIn, completed, isReceive, timedOut, started, wasReset, initial, wasSetUp}
+use Rattle.machine.specs.State.{World, Outcome, slotAt, storeAt, withSlot, withSlots, withFlags, withReply, withStore, withEndpoint, withPhase, withBusy, idled, isIdle, fresh, ticket, settled}
+use Rattle.machine.specs.Wire.{unit, store-size, response-place, smallest, packet-room, wrongStores, opcodeOf, clearsFlags}
+use Rattle.machine.specs.Control.{pausedSlot, pause, resumedSlot, released, resume, abort, clearFlags, primitive, replied, controlledBy, controlled}
+use Rattle.machine.specs.Process.{request, processing, responseTo, responded, respondedAtOnce, entered}
+use Rattle.machine.specs.Receive.{refused, refusedBusy, raised, flagOf, dropped, gathers, endedSlot, endAssembly, received}
+use Rattle.machine.specs.Finish.{isSlot, takenRow, takenFrom, taken, isBody, isPresent, completedRow, completedIn, completed, isReceive, timedOut, started, wasReset, wasSetUp}
 use Rattle.machine.specs.Poll.{Polled, otherSlot, sendingOr, hasBegun, begunOr, chosen, anyPaused, ready, replyFirst, isLast, advanced, afterPacket, sentControl, sentCommand, polledBy, polled}
 use Rattle.machine.specs.Valid.{phased, apart, isBegun, Fits, PhaseFacts, ValidSlot, ValidSlots, two, ValidFlags, Valid, Sound}
 use Rattle.machine.specs.Calls.{Call, receive, take!, read, complete, poll, timeout, reset, step, begin}

@@ -1,30 +1,29 @@
 -- What a poll does: the three things that can happen, and what each does to the slots and their logs.
 -- Assumes nothing.
-use Prim.Native.Nat.{ℕ, zero, suc, _+_, _-_, _*_, _/_, _%_, _^_, _≤_, _<_}
+use Prim.Native.Nat.{ℕ, _+_, _-_, _*_, _/_, _%_, _^_, _≤_, _<_}
 use mathlib.Core.Path.{_≡_, refl, sym, ap, _∙_}
 use mathlib.Core.Bool.{Bool, true, false, not, _&&_, _||_}
-use mathlib.Core.List.{List, [], _∷_, _++_}
+use mathlib.Core.List.{List, _∷_, _++_}
 use native.Mathlib.Omega.{arith}
 use lib.Dec.{eqb, leb, ltb}
 use lib.ListN.{length, take, drop}
 use lib.Seq.{take-append-seam}
-use borrow.Author.Tests.{eq-eqb, ne-eqb, eqb-true, ltb-true, ltb-false, leb-true, le-leb, not-false, not-true}
+use borrow.Author.Tests.{eq-eqb, ne-eqb, ltb-true, ltb-false, leb-true, le-leb, not-true}
 use Rattle.lent.specs.Choice.{if_then_else_}
-use Rattle.lent.proofs.Choice.{if-ind, if-second, or-left, or-right, false-true, and-both}
+use Rattle.lent.proofs.Choice.{if-ind, if-second, false-true, and-both}
 use Rattle.mctp.specs.Cut.{packets, payload, packet}
 use Rattle.mctp.proofs.Laws.{payload-next}
-use Rattle.machine.specs.State.{World, slotAt, storeAt, withSlot, withEndpoint, idled, replySent, packetSent}
-use Rattle.machine.specs.Wire.{unit, packet-room, wrongStores}
+use Rattle.machine.specs.State.{World, slotAt, storeAt, withSlot, withEndpoint, replySent, packetSent}
+use Rattle.machine.specs.Wire.{unit, packet-room}
 use Rattle.machine.specs.Poll.{Polled, otherSlot, chosen, anyPaused, ready, replyFirst, isLast, advanced, afterPacket, controlPacket, commandPacket, sentControl, sentCommand, polledBy, polled}
 use Rattle.machine.specs.Valid.{Valid, Sound}
-use Rattle.machine.specs.Calls.{Call, poll, Event, number, handed-out, Stepped, stepped, byPoll, step}
-use Rattle.machine.specs.History.{Log, phaseAt, pausedAt, isTransmit, moved, isPacketOf, sending, transmitted, logAfter, counts}
+use Rattle.machine.specs.Calls.{poll, number, handed-out, Stepped, stepped, byPoll, step}
+use Rattle.machine.specs.History.{Log, phaseAt, pausedAt, isTransmit, moved, sending, transmitted, logAfter, counts}
 use Rattle.machine.specs.Demands.{isProcess}
 use Rattle.machine.specs.declared.Response.{Response}
 use Rattle.machine.specs.declared.Phase.{Phase}
 use Rattle.machine.specs.declared.Phase.the-variants.{Idle, Receive, Process, Answered, Transmit}
 use Rattle.machine.specs.declared.Slot.{Slot}
-use Rattle.machine.specs.declared.Endpoint.{Endpoint}
 use Rattle.machine.specs.declared.Ready.{Ready}
 use Rattle.machine.specs.declared.Ready.the-variants.{Nothing, From}
 use Rattle.machine.proofs.Slots.{other-most}

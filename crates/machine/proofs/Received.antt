@@ -1,20 +1,19 @@
 -- What receiving a packet does to each slot, its store and its log.
 -- Assumes nothing.
-use Prim.Native.Nat.{ℕ, zero, suc, _+_, _-_, _*_, _/_, _%_, _^_, _≤_, _<_}
+use Prim.Native.Nat.{ℕ, _+_, _-_, _*_, _/_, _%_, _^_, _≤_, _<_}
 use mathlib.Core.Path.{_≡_, refl, sym, ap, _∙_}
-use mathlib.Core.Bool.{Bool, true, false, not, _&&_, _||_}
-use mathlib.Core.List.{List, [], _∷_, _++_}
+use mathlib.Core.Bool.{Bool, true, false, _&&_, _||_}
+use mathlib.Core.List.{List, _∷_, _++_}
 use native.Mathlib.Omega.{arith}
-use lib.Dec.{eqb, ltb}
-use lib.ListN.{length, take, drop, length-drop}
+use lib.Dec.{eqb}
+use lib.ListN.{length, take, length-drop}
 use lib.Seq.{getD-drop, length-take-le}
-use borrow.Author.Tests.{eq-eqb, ne-eqb, eqb-true, ltb-false, not-false}
+use borrow.Author.Tests.{eq-eqb, ne-eqb, eqb-true}
 use Rattle.lent.specs.Choice.{if_then_else_}
-use Rattle.lent.specs.Bytes.{byteAt, isSet, put}
+use Rattle.lent.specs.Bytes.{byteAt, put}
 use Rattle.lent.proofs.Choice.{if-ind, if-second, false-true}
 use Rattle.lent.proofs.Stores.{length-put, take-put}
-use Rattle.mctp.specs.Header.{fields, payloadOf, readHeader}
-use Rattle.mctp.specs.declared.Header.{Header}
+use Rattle.mctp.specs.Header.{fields, payloadOf}
 use Rattle.nvme_mi.specs.Message.{messageHeader, commandFault, controlFault}
 use Rattle.nvme_mi.specs.Response.{response, faultBody}
 use Rattle.nvme_mi.proofs.Laws.{length-response}
@@ -25,24 +24,22 @@ use Rattle.machine.specs.State.{World, Outcome, outcome, slotAt, storeAt
 use Rattle.machine.specs.Wire.{unit, store-size, response-place, smallest, opcodeOf, clearsFlags}
 use Rattle.machine.specs.Control.{pausedSlot, pause, resumedSlot, released as releasedPhase, resume, abort, clearFlags, primitive, controlledBy, controlled}
 use Rattle.machine.specs.Process.{request, processing, responseTo, responded, respondedAtOnce, pausedIf, entered as enteredWorld}
-use Rattle.machine.specs.Receive.{refused, refusedBusy, dropped, gathers, isFrom, endedSlot, endAssembly, received}
+use Rattle.machine.specs.Receive.{refused, refusedBusy, dropped, gathers, endedSlot, endAssembly, received}
 use Rattle.machine.specs.Poll.{otherSlot}
 use Rattle.machine.specs.Valid.{Valid, Sound, PhaseFacts}
-use Rattle.machine.specs.Calls.{Call, receive, Event, number, Stepped, byOutcome}
-use Rattle.machine.specs.History.{Log, History, phaseAt, hasSom, sourceOf, messageTagOf, receivesFrom, isTransmit, isFor, requestWith, kindOf, responseFor, fixedAtEntry, gaining, entering, commanded, transmitted, logAfter, isAbort, cuts}
-use Rattle.machine.specs.declared.Assembly.{Assembly}
+use Rattle.machine.specs.Calls.{Call, receive, number, Stepped, byOutcome}
+use Rattle.machine.specs.History.{Log, phaseAt, hasSom, sourceOf, messageTagOf, receivesFrom, isTransmit, isFor, requestWith, responseFor, fixedAtEntry, gaining, entering, commanded, transmitted, logAfter, isAbort, cuts}
 use Rattle.machine.specs.declared.Request.{Request}
-use Rattle.machine.specs.declared.Response.{Response}
 use Rattle.machine.specs.declared.Phase.{Phase}
 use Rattle.machine.specs.declared.Phase.the-variants.{Idle, Receive, Process, Answered, Transmit}
 use Rattle.machine.specs.declared.Slot.{Slot}
 use Rattle.machine.specs.declared.Endpoint.{Endpoint}
 use Rattle.machine.specs.declared.Acted.{Acted}
-use Rattle.machine.proofs.Slots.{isEarly, facts-at, from-same, other-most}
+use Rattle.machine.proofs.Slots.{isEarly, facts-at, other-most}
 use Rattle.machine.proofs.Receiving.{Origin, opens, goes-on, Joining, filled, grown, whole, Controls, Ground, in-table, of-no-slot, Break, in-sequence, in-size, in-total, Walk, read-facts, csi-most, walked}
-use Rattle.machine.proofs.Keeps.{received-sound, sound-endpoint, sound-store, store-at, kept-quiet, pause-valid, end-valid}
+use Rattle.machine.proofs.Keeps.{sound-endpoint, store-at, kept-quiet, pause-valid, end-valid}
 use Rattle.machine.proofs.Places.{Which, this, that, which, other-differs, slot-this, slot-that, slot-both, store-this, store-that, take-joined}
-use Rattle.machine.proofs.Fits.{Asked, Full, Fit, FitP, Entry, entered, stayed, Steady, same, newly, released, worked, fell, Carried, quiet-same, quiet-other, refusal-log, carried-same, carried-ended, carried-cut, carried-released, carried-settled, settled-begun, settled-process, next-ticket, response-is, atEntry, fixed-is}
+use Rattle.machine.proofs.Fits.{Fit, entered, stayed, newly, Carried, quiet-other, refusal-log, carried-same, carried-ended, carried-cut, carried-released, carried-settled, settled-begun, next-ticket, response-is, atEntry, fixed-is}
 
 -- what a call does to both slots, with the logs before it, and to what polling goes by
 pub record Carries (c : Call) (w : World) (log : ℕ → Log) (s : Stepped) : Type 0 where

@@ -1,14 +1,14 @@
 -- Every way through "Receiving", walked once: a property that each of its steps keeps or leads to, a received packet has.
 -- Assumes nothing.
-use Prim.Native.Nat.{ℕ, zero, suc, _+_, _-_, _*_, _%_, _^_, _≤_, _<_}
-use mathlib.Core.Path.{_≡_, refl, sym, ap, _∙_}
+use Prim.Native.Nat.{ℕ, suc, _+_, _-_, _*_, _%_, _^_, _≤_, _<_}
+use mathlib.Core.Path.{_≡_, refl, sym, _∙_}
 use mathlib.Core.Bool.{Bool, true, false, not, _&&_, _||_}
-use mathlib.Core.List.{List, [], _∷_, _++_}
+use mathlib.Core.List.{List, _∷_, _++_}
 use native.Mathlib.Nat.{mod-lt, zero-lt-suc}
 use native.Mathlib.Omega.{arith}
-use lib.Dec.{eqb, leb, ltb}
-use lib.ListN.{length, take, drop, length-drop}
-use borrow.Author.Tests.{ltb-false, ltb-true, eqb-true, not-true, not-false}
+use lib.Dec.{eqb, ltb}
+use lib.ListN.{length, take, length-drop}
+use borrow.Author.Tests.{ltb-false, eqb-true, not-false}
 use Rattle.lent.specs.Choice.{if_then_else_}
 use Rattle.lent.specs.Bytes.{byteAt, isSet, put}
 use Rattle.lent.proofs.Choice.{if-ind, if-second, or-left, or-right, false-true}
@@ -19,9 +19,8 @@ use Rattle.mctp.specs.declared.Read.{Read}
 use Rattle.mctp.specs.declared.Read.the-variants.{Refused, Packet}
 use Rattle.nvme_mi.specs.Message.{message-type, control, messageHeader}
 use Rattle.nvme_mi.specs.Check.{checkRight}
-use Rattle.nvme_mi.specs.declared.MessageHeader.{MessageHeader}
 use Rattle.machine.specs.Answers.{more-to-come, command-complete, control-done, check-wrong, not-a-request, message-too-short, not-twelve}
-use Rattle.machine.specs.State.{World, Outcome, outcome, slotAt, storeAt, withStore, withEndpoint, onSlot, withPhase, withBusy, isIdle}
+use Rattle.machine.specs.State.{World, Outcome, outcome, slotAt, storeAt, withStore, withEndpoint, onSlot, withPhase, isIdle}
 use Rattle.machine.specs.Wire.{unit, store-size, smallest, control-size, inward, wrongStores}
 use Rattle.machine.specs.Process.{entered}
 use Rattle.machine.specs.Control.{controlled}
@@ -30,9 +29,7 @@ use Rattle.machine.specs.Poll.{otherSlot}
 use Rattle.machine.specs.Valid.{Sound, PhaseFacts}
 use Rattle.machine.specs.History.{hasSom}
 use Rattle.machine.specs.declared.Assembly.{Assembly}
-use Rattle.machine.specs.declared.Phase.{Phase}
 use Rattle.machine.specs.declared.Phase.the-variants.{Receive}
-use Rattle.machine.specs.declared.Endpoint.{Endpoint}
 use Rattle.machine.specs.declared.Holder.{Holder}
 use Rattle.machine.specs.declared.Holder.the-variants.{Nowhere, At}
 use Rattle.machine.proofs.Slots.{isEarly, idle-early, facts-at, alone-at, from-same, Holds, holder-at, ended-at, other-most}

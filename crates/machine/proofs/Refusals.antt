@@ -11,15 +11,15 @@ use borrow.Author.Tests.{eq-eqb, ne-eqb, eqb-false, ltb-true}
 use Rattle.lent.specs.Choice.{if_then_else_}
 use Rattle.lent.proofs.Choice.{if-ind, false-true, and-both}
 use Rattle.mctp.specs.Header.{fields}
-use Rattle.machine.specs.State.{World, Outcome, outcome, slotAt, withEndpoint}
+use Rattle.machine.specs.State.{World, Outcome, slotAt, withEndpoint}
 use Rattle.machine.specs.Wire.{packet-room, wrongStores}
-use Rattle.machine.specs.Receive.{refused, refusedBusy, dropped, flagOf, endAssembly, received}
+use Rattle.machine.specs.Receive.{refused, refusedBusy, dropped, flagOf, received}
 use Rattle.machine.specs.Finish.{isSlot, takenRow, takenFrom, taken, isBody, isPresent, completedRow, completedIn, completed, isReceive, timedOut}
-use Rattle.machine.specs.Poll.{Polled, ready, replyFirst, polledBy, polled, sentControl, sentCommand}
+use Rattle.machine.specs.Poll.{Polled, ready, replyFirst, polledBy, polled}
 use Rattle.machine.specs.Valid.{Valid, Sound}
-use Rattle.machine.specs.Calls.{Call, receive, take!, read, complete, poll, timeout, reset, Event, number, given, part-read, handed-out, takeEvent, pollEvent, step}
+use Rattle.machine.specs.Calls.{receive, take!, read, complete, poll, timeout, reset, number, given, part-read, handed-out, takeEvent, pollEvent, step}
 use Rattle.machine.specs.History.{hasSom}
-use Rattle.machine.specs.Refusals.{flagged, FlagColumn, begun, Leaves, unread, tabled, busy, unknown, sequence, size, total, failed, RefusedPacket, isLent, WrongStores, RefusedCall, isOneOf, Named}
+use Rattle.machine.specs.Refusals.{FlagColumn, begun, Leaves, unread, tabled, busy, unknown, sequence, size, total, failed, RefusedPacket, WrongStores, RefusedCall, isOneOf, Named}
 use Rattle.machine.specs.declared.Ticket.{Ticket}
 use Rattle.machine.specs.declared.Taking.{Taking}
 use Rattle.machine.specs.declared.Taking.the-variants.{Untaken, Taken}
@@ -31,7 +31,7 @@ use Rattle.machine.specs.declared.Done.{Done}
 use Rattle.machine.specs.declared.TakeDone.{TakeDone}
 use Rattle.machine.specs.declared.Ready.{Ready}
 use Rattle.machine.specs.declared.Ready.the-variants.{Nothing, From}
-use Rattle.machine.proofs.Receiving.{Joining, filled, Ground, in-table, of-no-slot, Break, in-sequence, in-size, in-total, Walk, walked}
+use Rattle.machine.proofs.Receiving.{Ground, in-table, of-no-slot, Break, in-sequence, in-size, in-total, Walk, walked}
 use Rattle.machine.proofs.Keeps.{sound-endpoint, sound-of, end-valid}
 
 pub flag-column : FlagColumn

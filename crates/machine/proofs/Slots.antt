@@ -1,20 +1,19 @@
 -- Facts about the two slots of a state: which phases are early, what a change of one slot leaves of the other.
 -- Assumes nothing.
 use Prim.Native.Nat.{ℕ, zero, suc, _+_, _*_, _≤_, _<_}
-use mathlib.Core.Path.{_≡_, refl, sym, ap, _∙_}
+use mathlib.Core.Path.{_≡_, refl, sym, _∙_}
 use mathlib.Core.Bool.{Bool, true, false, not, _&&_, _||_}
-use mathlib.Core.List.{List, [], _∷_}
+use mathlib.Core.List.{List, _∷_}
 use native.Mathlib.Omega.{arith}
 use lib.Dec.{eqb}
-use lib.ListN.{length, getD, set}
+use lib.ListN.{getD}
 use borrow.Author.Tests.{eqb-true, eq-eqb}
 use Rattle.lent.specs.Choice.{if_then_else_}
 use Rattle.lent.proofs.Choice.{if-ind, and-both}
-use Rattle.machine.specs.State.{fresh, ticket, idled, slotAt, withSlot, withSlots, isIdle, storeAt, withStore, withEndpoint, World}
-use Rattle.machine.specs.Wire.{unit, store-size, smallest}
+use Rattle.machine.specs.State.{fresh, ticket, idled, slotAt, isIdle}
 use Rattle.machine.specs.Receive.{isFrom, gathers, holder, holderIn, endAssembly, endedSlot}
 use Rattle.machine.specs.Poll.{otherSlot}
-use Rattle.machine.specs.Valid.{phased, apart, isBegun, PhaseFacts, ValidSlot, ValidSlots, two, Valid, Sound}
+use Rattle.machine.specs.Valid.{phased, apart, PhaseFacts, ValidSlot, ValidSlots, two, Valid}
 use Rattle.machine.specs.declared.Assembly.{Assembly}
 use Rattle.machine.specs.declared.Phase.{Phase}
 use Rattle.machine.specs.declared.Phase.the-variants.{Idle, Receive, Process, Answered, Transmit}

@@ -6,20 +6,19 @@ use mathlib.Core.Path.{_≡_, refl, sym, ap, _∙_}
 use mathlib.Core.Bool.{Bool, true, false, not, _&&_, _||_}
 use mathlib.Core.List.{List, [], _∷_, _++_}
 use native.Mathlib.Omega.{arith}
-use lib.Dec.{eqb, leb, ltb}
+use lib.Dec.{leb}
 use lib.ListN.{length, take}
-use borrow.Author.Tests.{eq-eqb, ne-eqb, eqb-true, ltb-true, not-false, not-true}
+use borrow.Author.Tests.{eq-eqb, eqb-true, not-true}
 use Rattle.lent.specs.Choice.{if_then_else_}
-use Rattle.lent.proofs.Choice.{if-ind, if-second, false-true, and-both}
+use Rattle.lent.proofs.Choice.{if-ind, false-true, and-both}
 use Rattle.mctp.specs.Cut.{packet}
 use Rattle.machine.specs.State.{World, outcome, slotAt, storeAt, withSlot}
-use Rattle.machine.specs.Wire.{unit, wrongStores}
-use Rattle.machine.specs.Finish.{isSlot, takenRequest, takeEnded, takenRow, takenFrom, taken, partOf, part, isBody, isPresent, completedRow, completedIn, completed}
-use Rattle.machine.specs.Poll.{otherSlot, afterPacket, controlPacket, commandPacket}
+use Rattle.machine.specs.Finish.{isSlot, takenRequest, takenRow, takenFrom, taken, part, isPresent, completedRow, completedIn, completed}
+use Rattle.machine.specs.Poll.{afterPacket, controlPacket, commandPacket}
 use Rattle.machine.specs.Valid.{PhaseFacts, Sound}
-use Rattle.machine.specs.Calls.{Call, take!, read, complete, poll, Event, number, given, part-read, handed-out, Stepped, stepped, takeEvent, byTake, byOutcome, step}
-use Rattle.machine.specs.History.{Log, History, phaseAt, pausedAt, isTransmit, isPacketOf, moved, responseFor, completing, commanded, sending, transmitted, logAfter, counts, next, run, start}
-use Rattle.machine.specs.Demands.{Every, TicketCount, isProcess, TicketRule, Own, AnswersOwn, routeOf, Belongs, AnswerBelongs, PausesHold, isAnswered, isIdleNow, FlagsFit}
+use Rattle.machine.specs.Calls.{Call, take!, read, complete, poll, Event, number, given, part-read, handed-out, Stepped, takeEvent, step}
+use Rattle.machine.specs.History.{Log, History, phaseAt, pausedAt, isTransmit, isPacketOf, moved, responseFor, commanded, transmitted, logAfter, counts, next, run, start}
+use Rattle.machine.specs.Demands.{TicketCount, isProcess, TicketRule, AnswersOwn, routeOf, AnswerBelongs, PausesHold, isAnswered, isIdleNow, FlagsFit}
 use Rattle.machine.specs.declared.Ticket.{Ticket}
 use Rattle.machine.specs.declared.Taking.{Taking}
 use Rattle.machine.specs.declared.Taking.the-variants.{Untaken, Taken}
@@ -28,13 +27,11 @@ use Rattle.machine.specs.declared.Response.{Response}
 use Rattle.machine.specs.declared.Phase.{Phase}
 use Rattle.machine.specs.declared.Phase.the-variants.{Idle, Receive, Process, Answered, Transmit}
 use Rattle.machine.specs.declared.Slot.{Slot}
-use Rattle.machine.specs.declared.TakeAnswer.the-variants.{Refused, Given}
 use Rattle.machine.specs.declared.TakeDone.{TakeDone}
-use Rattle.machine.specs.declared.Ready.the-variants.{From}
-use Rattle.machine.proofs.Slots.{facts-at, other-most}
+use Rattle.machine.proofs.Slots.{facts-at}
 use Rattle.machine.proofs.Receiving.{right-stores}
 use Rattle.machine.proofs.Keeps.{slot-most, Chosen, chosen-at}
-use Rattle.machine.proofs.Places.{Which, this, that, which, slot-this, slot-that, other-back}
+use Rattle.machine.proofs.Places.{Which, this, that, which, slot-this, slot-that}
 use Rattle.machine.proofs.Fits.{Asked, Going, Fit, Entry, entered, stayed}
 use Rattle.machine.proofs.Polling.{PollCase, still, replies, sends, poll-case, moved-same, onward, onward-moves}
 use Rattle.machine.proofs.Histories.{Good, kept-by, good-next, good-run, good-every}

@@ -2,7 +2,7 @@
 -- Assumes nothing.
 use Prim.Native.Nat.{ℕ}
 use mathlib.Core.Bool.{Bool, true, false}
-use mathlib.Core.List.{List, [], _∷_}
+use mathlib.Core.List.{List, _∷_}
 use lib.Bits.{bitOr}
 use lib.Dec.{eqb}
 use Rattle.lent.specs.Choice.{if_then_else_}
@@ -12,7 +12,7 @@ use Rattle.nvme_mi.specs.Response.{response, faultBody, successBody}
 use Rattle.nvme_mi.specs.declared.MessageHeader.{MessageHeader}
 use Rattle.nvme_mi.specs.declared.Fault.{Fault}
 use Rattle.nvme_mi.specs.declared.Fault.the-variants.{NoFault, Parameter, Failure}
-use Rattle.machine.specs.State.{slotAt, withSlot, onBoth, withPhase, withPaused, withBusy, withFlags, withReply, slot, idled, isIdle}
+use Rattle.machine.specs.State.{slotAt, withSlot, onBoth, withPaused, withBusy, withFlags, withReply, slot, idled, isIdle}
 use Rattle.machine.specs.Wire.{opcodeOf, tagOf, clearsFlags}
 use Rattle.machine.specs.declared.Taking.{Taking}
 use Rattle.machine.specs.declared.Taking.the-variants.{Untaken, Taken}

@@ -1,19 +1,19 @@
 -- Demands 2 and 3 as statements about lists of calls. Their proofs: `demand-3` (proofs/Delivery), `ticket-count`, `ticket-rule`,
 -- `answers-own`, `answer-belongs` (proofs/Tickets).
 -- Assumes nothing.
-use Prim.Native.Nat.{ℕ, zero, suc, _+_, _-_, _*_, _/_, _%_, _^_, _≤_, _<_}
+use Prim.Native.Nat.{ℕ, _+_, _-_, _*_, _/_, _%_, _^_, _≤_, _<_}
 use mathlib.Core.Path.{_≡_}
-use mathlib.Core.Bool.{Bool, true, false, not, _&&_, _||_}
+use mathlib.Core.Bool.{Bool, true, false, _&&_, _||_}
 use mathlib.Core.List.{List, [], _∷_, _++_}
 use lib.ListN.{length}
 use Rattle.lent.specs.Choice.{if_then_else_}
 use Rattle.mctp.specs.Cut.{packet}
 use Rattle.mctp.specs.declared.Route.{Route}
-use Rattle.machine.specs.State.{World, slotAt}
+use Rattle.machine.specs.State.{slotAt}
 use Rattle.machine.specs.Wire.{store-size}
 use Rattle.machine.specs.Poll.{controlPacket}
 use Rattle.machine.specs.Valid.{phased}
-use Rattle.machine.specs.Calls.{Call, take!, read, complete, poll, Event, number, given, part-read, handed-out, step}
+use Rattle.machine.specs.Calls.{Call, take!, read, complete, poll, number, given, part-read, handed-out, step}
 use Rattle.machine.specs.History.{History, phaseAt, pausedAt, isTransmit, responseFor, isPacketOf, next, run, start, cuts, packetsLeft, lastPacketOut}
 use Rattle.machine.specs.declared.Ticket.{Ticket}
 use Rattle.machine.specs.declared.Phase.{Phase}

@@ -1,7 +1,7 @@
 -- Lists of calls on one endpoint, and what the words of "Demand 3 is one statement" mean on them. The history is observed from outside: from
 -- the call, what it answered, and the states before and after it. Its words are written from the document and borrow no test of the machine.
 -- Assumes nothing.
-use Prim.Native.Nat.{ℕ, zero, suc, _+_, _-_, _*_, _/_, _%_, _≤_, _<_}
+use Prim.Native.Nat.{ℕ, _+_, _-_, _*_, _/_, _%_, _≤_, _<_}
 use mathlib.Core.Path.{_≡_}
 use mathlib.Core.Bool.{Bool, true, false, not, _&&_, _||_}
 use mathlib.Core.List.{List, [], _∷_, _++_}

@@ -17,7 +17,7 @@ use Rattle.nvme_mi.specs.Message.{message-type, control, messageHeader}
 use Rattle.nvme_mi.specs.Check.{checkRight}
 use Rattle.nvme_mi.specs.declared.MessageHeader.{MessageHeader}
 use Rattle.machine.specs.Answers.{more-to-come, command-complete, control-done, not-a-request, message-too-short, not-twelve, check-wrong, slot-not-idle, wrong-stores}
-use Rattle.machine.specs.State.{World, Outcome, outcome, slotAt, storeAt, withSlot, withStore, withEndpoint, withFlags, onSlot, onBoth, withPhase, withBusy, idled, isIdle}
+use Rattle.machine.specs.State.{World, Outcome, outcome, slotAt, storeAt, withStore, withEndpoint, withFlags, onSlot, onBoth, withPhase, withBusy, idled, isIdle}
 use Rattle.machine.specs.Wire.{unit, store-size, smallest, control-size, inward, wrongStores}
 use Rattle.machine.specs.Process.{entered}
 use Rattle.machine.specs.Control.{controlled}

@@ -13,7 +13,7 @@ use Rattle.lent.specs.Bytes.{put}
 use Rattle.machine.specs.State.{World, slotAt, storeAt, withEndpoint, withStore, withFlags, onSlot, withBusy, idled}
 use Rattle.machine.specs.Wire.{wrongStores}
 use Rattle.machine.specs.Receive.{endAssembly, flagOf, received}
-use Rattle.machine.specs.Calls.{Call, receive, take!, read, complete, poll, timeout, reset, Event, number, step}
+use Rattle.machine.specs.Calls.{Call, receive, take!, read, complete, poll, timeout, reset, number, step}
 use Rattle.machine.specs.Valid.{Valid, Sound}
 use Rattle.machine.specs.History.{hasSom, sourceOf, messageTagOf, bytesFrom4}
 

@@ -1,10 +1,10 @@
 -- The state, "The endpoint has two slots, kept side by side and chosen by number", and both lent stores.
 -- Assumes nothing.
 use Prim.Native.Nat.{ℕ, _+_, _%_, _^_}
-use mathlib.Core.Bool.{Bool, true, false, not, _&&_, _||_}
+use mathlib.Core.Bool.{Bool, true, false, _&&_, _||_}
 use mathlib.Core.List.{List, [], _∷_}
 use lib.Dec.{eqb}
-use lib.ListN.{length, getD, set}
+use lib.ListN.{getD, set}
 use Rattle.lent.specs.Choice.{if_then_else_}
 use Rattle.machine.specs.declared.Ticket.{Ticket}
 use Rattle.machine.specs.declared.Response.{Response}

@@ -9,7 +9,7 @@ use mathlib.Core.List.{List, [], _∷_}
 use lib.Dec.{eqb, leb, ltb}
 use lib.ListN.{length}
 use Rattle.lent.specs.Choice.{if_then_else_}
-use Rattle.machine.specs.State.{World, slotAt, isIdle}
+use Rattle.machine.specs.State.{World, isIdle}
 use Rattle.machine.specs.Wire.{unit, store-size, smallest}
 use Rattle.machine.specs.Receive.{gathers}
 use Rattle.machine.specs.Poll.{otherSlot}

@@ -31,6 +31,7 @@ fn is_record(tag: u8, n: usize) -> bool
     }
 }
 
+// A byte as a length or a slot number.
 pub fn wide(b: u8) -> usize
     ensures { λ r. ⌜ (r ≡ b) × (r < 256) ⌝ }
 {

@@ -1,3 +1,5 @@
+-- `crc32c::bit_step` meets its contract: one bit of the register, shifted out and divided.
+-- Assumes nothing.
 use borrow.Author.Needs.{needs}
 use mathlib.Core.Path.{refl}
 use Rattle.crc32c.specs.Reflected.{bitStep}

@@ -1,4 +1,5 @@
-use borrow.Author.Needs.{needs}
+-- `crc32c::byte_step` meets its contract: eight bits, one after the other.
+-- Assumes nothing.
 use Rattle.crc32c.specs.Reflected.{byteStep, bitSteps}
 use Rattle.crc32c.proofs.byte_step.Statement.{statement}
 use Rattle.crc32c.proofs.byte_step.Tie as tie

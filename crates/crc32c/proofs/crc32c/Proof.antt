@@ -1,19 +1,20 @@
-use mathlib.Core.Path.{_≡_, refl, sym, ap, _∙_}
-use mathlib.Core.List.{List, [], _∷_}
-use Prim.Native.Nat.{ℕ, suc, _+_, _-_, _≤_, _<_}
-use native.Mathlib.Omega.{arith}
+-- `crc32c::crc32c` meets its contract. The loop keeps: the register has the bytes that were read; those left fall.
+-- Assumes nothing.
+use mathlib.Core.Path.{_≡_, sym, ap, _∙_}
+use mathlib.Core.List.{List, _∷_}
+use Prim.Native.Nat.{ℕ, _+_, _-_, _≤_, _<_}
 use native.Mathlib.Numerals.{add-one}
 use lib.ListN.{length, drop, getD, drop-of-length-le}
 use lib.Seq.{drop-cons}
 use lib.Bits.{bitXor}
 use borrow.Author.Needs.{needs}
-use Rattle.crc32c.specs.Crc32c.{start, crc32c}
+use Rattle.crc32c.specs.Crc32c.{start}
 use Rattle.crc32c.specs.Reflected.{byteStep, through}
 use Rattle.crc32c.proofs.Same.{same}
 use Rattle.crc32c.proofs.crc32c.Statement.{statement}
 use Rattle.crc32c.proofs.crc32c.Tie as tie
 
--- the through x goes through the bytes that are left as the first one goes through all
+-- what the register makes of the bytes that are left is what the first register makes of all
 abbrev Inv-loop : tie.InvT-loop
 Inv-loop s x₀ i₀ x i = (i ≤ length s) × (through x (drop i s) ≡ through start s)
 
