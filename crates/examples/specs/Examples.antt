@@ -13,7 +13,6 @@ use Rattle.nvme_mi.specs.Message.{commandFault, controlFault}
 use Rattle.nvme_mi.specs.Check.{checkRight, withCheck}
 use Rattle.nvme_mi.specs.Response.{response}
 use Rattle.machine.specs.State.{ticket}
-use Rattle.machine.specs.Wire.{store-size, packet-room}
 use Rattle.machine.specs.Calls.{Call, receive, take!, complete, poll, Event, number, given, part-read, handed-out, begin, events}
 
 -- ---- packets, from EID 9 to EID 8
@@ -32,7 +31,7 @@ mi-20 = command 0x08 20 (0xE2 ∷ 0x00 ∷ 0x06 ∷ 0x07 ∷ [])
 abbrev mi-19 : Call
 mi-19 = command 0x08 19 (0x94 ∷ 0xBB ∷ 0x38 ∷ 0x49 ∷ [])
 
-abbrev nmimt-3 : Call
+abbrev pub nmimt-3 : Call
 nmimt-3 = command 0x18 20 (0xD4 ∷ 0xE6 ∷ 0x80 ∷ 0x63 ∷ [])
 
 -- an MI command of 65 bytes: 64 bytes with SOM and sequence 3, then its last byte with EOM and the sequence number given
@@ -71,12 +70,12 @@ abbrev pub completing : ℕ → Call
 completing n = complete 0 (ticket 1) (replicate n 0)
 
 abbrev pub polling : Call
-polling = poll (replicate packet-room 0)
+polling = poll (replicate 68 0)
 
 -- ---- what is looked at
 
 -- an answer's number; behind 0 a ticket; behind 1 a packet's length
-abbrev answer : Event → List ℕ
+abbrev pub answer : Event → List ℕ
 answer (number n) = n ∷ []
 answer (given t) = 0 ∷ t .0 ∷ []
 answer (part-read bytes) = bytes
@@ -147,7 +146,7 @@ table =
 
 -- from setup with EID 8 and stores of zeros
 abbrev pub run : Case → List (List ℕ)
-run c = map (c .looked) (events (c .calls) (begin 8 (replicate store-size 0) (replicate store-size 0)))
+run c = map (c .looked) (events (c .calls) (begin 8 (replicate 4224 0) (replicate 4224 0)))
 
 -- THE STATEMENT: each run of the table is seen as the table says
 pub examples : map run table ≡ map (λ (c : Case). c .seen) table

@@ -1,2 +1,4 @@
 pub mod Examples
 pub mod Runs
+pub mod Premises
+pub mod Replies

@@ -1,2 +1,3 @@
 pub mod Polls
 pub mod Told
+pub mod Whole

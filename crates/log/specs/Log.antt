@@ -2,7 +2,7 @@
 -- Assumes nothing.
 use Prim.Native.Nat.{ℕ, _≤_}
 use mathlib.Core.Path.{_≡_}
-use mathlib.Core.List.{List}
+use mathlib.Core.List.{List, [], _∷_}
 use lib.Dec.{eqb}
 use lib.ListN.{length, take, drop, replicate}
 use Rattle.lent.specs.Bytes.{byteAt, put}
@@ -10,8 +10,8 @@ use Rattle.lent.specs.Choice.{if_then_else_}
 use Rattle.records.specs.Records.{numberLine, packetLine, line-room}
 use Rattle.machine.specs.State.{World, world, Outcome, ticket}
 use Rattle.machine.specs.Receive.{received}
-use Rattle.machine.specs.Finish.{taken, takeNumber, completed, timedOut, wasReset, wasSetUp}
-use Rattle.machine.specs.Poll.{Polled, polled}
+use Rattle.machine.specs.Finish.{taken, takeSays, completed, timedOut, wasReset, wasSetUp}
+use Rattle.machine.specs.Poll.{Polled, pollSays, polled}
 use Rattle.machine.specs.Wire.{packet-room}
 use Rattle.machine.specs.Valid.{Valid}
 use Rattle.machine.specs.declared.Endpoint.{Endpoint}
@@ -21,16 +21,18 @@ use Rattle.machine.specs.declared.TakeAnswer.{TakeAnswer}
 use Rattle.machine.specs.declared.TakeAnswer.the-variants.{Refused as TakeRefused, Given}
 use Rattle.machine.specs.declared.TakeDone.{TakeDone}
 use Rattle.machine.specs.declared.PollAnswer.{PollAnswer}
-use Rattle.machine.specs.declared.PollAnswer.the-variants.{Refused as PollRefused, Nothing, Packet}
 use Rattle.log.specs.declared.Session.{Session}
 use Rattle.log.specs.declared.Answer.{Answer}
 
 -- ---- the line of a poll
 
+-- a number, and behind it the packet of this length
+abbrev pub answerLine : List ℕ → ℕ → List ℕ → List ℕ
+answerLine buffer n [] = numberLine n
+answerLine buffer n (size ∷ sizes) = packetLine n (take size buffer)
+
 abbrev pub pollLine : List ℕ → PollAnswer → List ℕ
-pollLine buffer (PollRefused n) = numberLine n
-pollLine buffer Nothing = numberLine 0
-pollLine buffer (Packet n) = packetLine (take n buffer)
+pollLine buffer a = answerLine buffer (pollSays a .0) (pollSays a .1)
 
 -- ---- a session: the endpoint, and for each slot the ticket last taken there; the stores are lent beside it
 
@@ -80,7 +82,7 @@ abbrev pub byDone : Session → List ℕ → List ℕ → Done → Recorded
 byDone s a b d = recordedTo (numberLine (d .answer)) (withEndpoint s (d .endpoint)) a b
 
 abbrev pub byTake : Session → List ℕ → List ℕ → ℕ → TakeDone → Recorded
-byTake s a b i d = recordedTo (numberLine (takeNumber (d .answer))) (ticketKept (withEndpoint s (d .endpoint)) i (d .answer)) a b
+byTake s a b i d = recordedTo (numberLine (takeSays (d .answer) .0)) (ticketKept (withEndpoint s (d .endpoint)) i (d .answer)) a b
 
 abbrev pub byPoll : Session → List ℕ → List ℕ → Polled → Recorded
 byPoll s a b p = recordedTo (pollLine (p .buffer) (p .answer)) (withEndpoint s (p .endpoint)) a b

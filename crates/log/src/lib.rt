@@ -5,7 +5,7 @@ ghost use mathlib.Core.List.{List};
 ghost use Prim.Native.Nat.{ℕ, _≤_};
 ghost use lib.ListN.{length};
 ghost use Rattle.lent.specs.Bytes.{put as Bytes·put};
-ghost use Rattle.machine.specs.Finish.{takeNumber};
+ghost use Rattle.machine.specs.Finish.{takeSays};
 ghost use Rattle.machine.specs.Valid.{Valid};
 ghost use Rattle.machine.specs.declared.PollAnswer.{PollAnswer};
 ghost use Rattle.records.specs.Records.{line-room, isRecord};
@@ -85,7 +85,7 @@ fn ticket_kept(session: Session, slot: usize, answer: TakeAnswer) -> Session
 }
 
 fn take_number(answer: TakeAnswer) -> u8
-    ensures { λ r. ⌜ r ≡ takeNumber answer ⌝ }
+    ensures { λ r. ⌜ r ≡ takeSays answer .0 ⌝ }
 {
     match answer {
         TakeAnswer::Refused(n) => n,

@@ -20,7 +20,7 @@ use Rattle.machine.specs.Poll.{otherSlot, sendingOr, hasBegun, begunOr, 
 use Rattle.machine.specs.Valid.{phased, isBegun, Fits, PhaseFacts, Valid}
 use Rattle.machine.specs.Calls.{Call, receive, take!, read, complete, poll, timeout, reset, number, handed-out, Stepped, stepped, takeEvent, step}
 use Rattle.machine.specs.History.{Log, History, phaseAt, isTransmit, moved, isPacketOf, transmitted, logAfter, counts, one?, next, run, start, cuts, packetsLeft, lastPacketOut}
-use Rattle.machine.specs.Demands.{Fate, cut, delivered, open!, fate, Within, pollsFor, Demand3, AtMost264}
+use Rattle.machine.specs.Demands.{Fate, cut, delivered, open!, fate, Within, pollsFor, isProcess, Demand3, AtMost264}
 use Rattle.machine.specs.declared.Request.{Request}
 use Rattle.machine.specs.declared.Response.{Response}
 use Rattle.machine.specs.declared.Phase.{Phase}
@@ -31,12 +31,13 @@ use Rattle.machine.specs.declared.TakeAnswer.{TakeAnswer}
 use Rattle.machine.specs.declared.TakeAnswer.the-variants.{Refused, Given}
 use Rattle.machine.specs.declared.Ready.{Ready}
 use Rattle.machine.specs.declared.Ready.the-variants.{Nothing, From}
-use Rattle.machine.proofs.Slots.{facts-at, slot-facts, other-most}
+use Rattle.machine.proofs.Slots.{isEarly, facts-at, slot-facts, other-most}
 use Rattle.machine.proofs.Keeps.{Chosen, chosen-at}
 use Rattle.machine.proofs.Places.{Which, this, that, which, other-differs, other-back, slot-this, slot-that}
-use Rattle.machine.proofs.Fits.{Going, Steady, same, newly, released, worked, fell}
+use Rattle.machine.proofs.Fits.{Going, Steady, same, newly, released, handed-over, worked, fell, settled-begun}
 use Rattle.machine.proofs.Polling.{PollCase, still, replies, sends, poll-case, moved-same, onward, onward-logs, onward-moves, sentLog, joined}
 use Rattle.machine.proofs.Histories.{Good, isPlain, plain-carries, good-next, good-every}
+use Rattle.machine.proofs.Responses.{response-kept}
 
 -- ---- packets left, and what may go before
 
@@ -95,6 +96,12 @@ begun-not-turn {e} i is v h =
     let k : e .turn ≡ otherSlot (otherSlot i) = slot-facts (otherSlot i) (other-most i) (v .slots-valid) .begun-turn h in
     ne-eqb (e .turn) (otherSlot i) (λ q. other-differs i is (sym q ∙ k ∙ other-back i is))
 
+not-process : {A : Type 0} {r : Response} {x : Request} → Transmit r ≡ Process x → A
+not-process {r = r} {x = x} e = absurd (omega (arith, differ e))
+  where
+    differ : Transmit r ≡ Process x → _≡_ {A = ℕ} 0 1
+    differ e = cc
+
 -- a slot in Transmit stays there, unless it is cut off
 stays : {C : Type 0} {p q : Phase} (r : Response) → Steady C p q → p ≡ Transmit r → (C → ⊥) → q ≡ p
 stays r (same e) t n = e
@@ -103,10 +110,8 @@ stays r (released x a b) t n = absurd (omega (arith, differ (sym t ∙ a)))
   where
     differ : {r x : Response} → Transmit r ≡ Answered x → _≡_ {A = ℕ} 0 1
     differ e = cc
-stays r (worked x a b) t n = absurd (omega (arith, differ (sym t ∙ a)))
-  where
-    differ : {r : Response} {x : Request} → Transmit r ≡ Process x → _≡_ {A = ℕ} 0 1
-    differ e = cc
+stays r (handed-over x a b) t n = not-process (sym t ∙ a)
+stays r (worked x b y a d z) t n = not-process (sym t ∙ a)
 stays r (fell c e) t n = absurd (n c)
 
 waiting-unsent : (b : Bool) (p : Phase) → PhaseFacts b p → (r : Response) → p ≡ Answered r → r .sent ≡ 0
@@ -125,7 +130,8 @@ module _ (e e′ : Endpoint) (i : ℕ) (is : i ≤ 1) (v : Valid e) (turn-is : e
   ahead-down (newly a b) = calm-ahead b
   ahead-down (released r a b) =
       calm-ahead (rw (b, waiting-unsent (slotAt e (otherSlot i) .paused) (slotAt e (otherSlot i) .phase) (facts-at (otherSlot i) (other-most i) v) r a) refl)
-  ahead-down (worked r a b) = calm-ahead b
+  ahead-down (handed-over r a b) = calm-ahead (rw b refl)
+  ahead-down (worked r b x a d z) = calm-ahead (ap isBegun d ∙ settled-begun b x z)
   ahead-down (fell c q) = calm-ahead (rw q refl)
 
 -- what a call that is not a poll does
@@ -185,7 +191,7 @@ turn-some e v i is r t = at (which (e .turn) i (v .turn-most) is)
         sending-or-other (e .turn) (slotAt e (e .turn) .phase) _
         (λ m. from-none (sending-or-some (otherSlot (e .turn)) (slotAt e (otherSlot (e .turn)) .phase) Nothing r (rw q at t)) m) n
 
-chosen-some : (e : Endpoint) → Valid e → (i : ℕ) → i ≤ 1 → (r : Response) → slotAt e i .phase ≡ Transmit r → chosen e ≡ Nothing → ⊥
+pub chosen-some : (e : Endpoint) → Valid e → (i : ℕ) → i ≤ 1 → (r : Response) → slotAt e i .phase ≡ Transmit r → chosen e ≡ Nothing → ⊥
 unfolding chosen
 chosen-some e v i is r t n =
     begun-or-some 0 (slotAt e 0 .phase) _ (λ m. begun-or-some 1 (slotAt e 1 .phase) (byTurn e) (turn-some e v i is r t) m) n
@@ -468,29 +474,35 @@ one-most true = omega arith
 one-most false = omega arith
 
 -- what is promised of the rest of the list, where the measure has fallen with the count
-abbrev Onwards : ℕ → ℕ → List Call → Type 0
-Onwards i most ys =
-    (h : History) → Good h → (r : Response) → phaseAt (h .world) i ≡ Transmit r → h .counted + measure i (h .world .endpoint) ≤ most + 1 → Within most i (fate i ys h)
+abbrev Onwards : ℕ → ℕ → List ℕ → List Call → Type 0
+Onwards i most response ys =
+    (h : History) → Good h → (r : Response) → phaseAt (h .world) i ≡ Transmit r → h .log i .response ≡ response → h .counted + measure i (h .world .endpoint) ≤ most + 1
+    → Within most i response (fate i ys h)
 
-within-turn : (i most : ℕ) → i ≤ 1 → (c : Call) (cs : List Call) → Onwards i most cs → (h : History) → Good h → (r : Response) → phaseAt (h .world) i ≡ Transmit r
-    → h .counted + measure i (h .world .endpoint) ≤ most + 1 → (x : Bool) → lastPacketOut i c h ≡ x → Progress i c h (step c (h .world))
-    → Within most i (if x then delivered (next c h) else fate i cs (next c h))
+-- no call changes the response that is being sent
+sent-response : (i : ℕ) → i ≤ 1 → (c : Call) (h : History) → Good h → (r : Response) → phaseAt (h .world) i ≡ Transmit r → next c h .log i .response ≡ h .log i .response
+sent-response i is c h g r t = response-kept i is c h g (ap isEarly t) (ap isProcess t)
+
+within-turn : (i most : ℕ) (response : List ℕ) → i ≤ 1 → (c : Call) (cs : List Call) → Onwards i most response cs → (h : History) → Good h → (r : Response)
+    → phaseAt (h .world) i ≡ Transmit r → next c h .log i .response ≡ response → h .counted + measure i (h .world .endpoint) ≤ most + 1
+    → (x : Bool) → lastPacketOut i c h ≡ x → Progress i c h (step c (h .world)) → Within most i response (if x then delivered (next c h) else fate i cs (next c h))
 unfolding next
-within-turn i most is c cs rest h g r t b true e (finished l q) =
-    (omega (arith, measure-least i is h g r t, one-most (counts c (h .world))), q)
-within-turn i most is c cs rest h g r t b true e (goes l r′ t′ m) = false-true (sym l ∙ e)
-within-turn i most is c cs rest h g r t b false e (finished l q) = false-true (sym e ∙ l)
-within-turn i most is c cs rest h g r t b false e (goes l r′ t′ m) = rest (next c h) (good-next c h g) r′ t′ (omega (arith, m))
+within-turn i most response is c cs rest h g r t k b true e (finished l q) =
+    (omega (arith, measure-least i is h g r t, one-most (counts c (h .world))), q ∙ k)
+within-turn i most response is c cs rest h g r t k b true e (goes l r′ t′ m) = false-true (sym l ∙ e)
+within-turn i most response is c cs rest h g r t k b false e (finished l q) = false-true (sym e ∙ l)
+within-turn i most response is c cs rest h g r t k b false e (goes l r′ t′ m) = rest (next c h) (good-next c h g) r′ t′ k (omega (arith, m))
 
-pub within : (i most : ℕ) → i ≤ 1 → (ys : List Call) → Onwards i most ys
+pub within : (i most : ℕ) (response : List ℕ) → i ≤ 1 → (ys : List Call) → Onwards i most response ys
 unfolding fate
-within i most is [] h g r t b = omega (arith, measure-least i is h g r t)
-within i most is (c ∷ cs) h g r t b = by (within i most is cs) (cuts i c (h .world)) refl
+within i most response is [] h g r t k b = omega (arith, measure-least i is h g r t)
+within i most response is (c ∷ cs) h g r t k b = by (within i most response is cs) (cuts i c (h .world)) refl
   where
-    by : Onwards i most cs → (x : Bool) → cuts i c (h .world) ≡ x
-        → Within most i (if x then cut else if lastPacketOut i c h then delivered (next c h) else fate i cs (next c h))
+    by : Onwards i most response cs → (x : Bool) → cuts i c (h .world) ≡ x
+        → Within most i response (if x then cut else if lastPacketOut i c h then delivered (next c h) else fate i cs (next c h))
     by rest true e = tt
-    by rest false e = within-turn i most is c cs rest h g r t b (lastPacketOut i c h) refl (progress i is c h g e r t)
+    by rest false e =
+        within-turn i most response is c cs rest h g r t (sent-response i is c h g r t ∙ k) b (lastPacketOut i c h) refl (progress i is c h g e r t)
 
 -- ---- DEMAND 3
 
@@ -500,15 +512,15 @@ left-is i is h g r t =
     let k : Going r (storeAt (h .world) i) (h .log i) = rw t at (g .fits i is .phase-fits) in
     rw (k .full .size, k .count) refl
 
-sending-phase : (p : Phase) → isTransmit p ≡ true → (r : Response) × (p ≡ Transmit r)
+pub sending-phase : (p : Phase) → isTransmit p ≡ true → (r : Response) × (p ≡ Transmit r)
 sending-phase Idle h = false-true h
 sending-phase (Receive a) h = false-true h
 sending-phase (Process r) h = false-true h
 sending-phase (Answered r) h = false-true h
 sending-phase (Transmit r) h = (r, refl)
 
-from-here : (i : ℕ) → i ≤ 1 → (h : History) → Good h → (r : Response) → phaseAt (h .world) i ≡ Transmit r → (ys : List Call)
-    → (1 ≤ packetsLeft i h) × (packetsLeft i h ≤ 66) × Within (h .counted + pollsFor (packetsLeft i h)) i (fate i ys h)
+pub from-here : (i : ℕ) → i ≤ 1 → (h : History) → Good h → (r : Response) → phaseAt (h .world) i ≡ Transmit r → (ys : List Call)
+    → (1 ≤ packetsLeft i h) × (packetsLeft i h ≤ 66) × Within (h .counted + pollsFor (packetsLeft i h)) i (h .log i .response) (fate i ys h)
 from-here i is h g r t ys =
     let v = g .sound .state in
     let f : PhaseFacts (slotAt (h .world .endpoint) i .paused) (Transmit r) = rw t at (facts-at i is v) in
@@ -520,7 +532,7 @@ from-here i is h g r t ys =
     (left-most (slotAt (h .world .endpoint) o .paused) (phaseAt (h .world) o) (facts-at o (other-most i) v)) in
     let first : oneMore (h .world .endpoint .«last_control») ≤ 1 =
     if-ind (λ (x : ℕ). x ≤ 1) (h .world .endpoint .«last_control») (λ _. omega arith) (λ _. omega arith) in
-    (omega (arith, k .0, n), omega (arith, k .1, n), within i (h .counted + pollsFor (packetsLeft i h)) is ys h g r t (omega (arith, most, first, n, ap leftIn t)))
+    (omega (arith, k .0, n), omega (arith, k .1, n), within i (h .counted + pollsFor (packetsLeft i h)) (h .log i .response) is ys h g r t refl (omega (arith, most, first, n, ap leftIn t)))
 
 pub demand-3 : Demand3
 demand-3 eid store0 store1 a b xs ys i is t =
@@ -530,13 +542,13 @@ demand-3 eid store0 store1 a b xs ys i is t =
 
 -- ---- what people quote
 
-within-more : (i a b : ℕ) (f : Fate) → a ≤ b → Within a i f → Within b i f
-within-more i a b cut h w = tt
-within-more i a b (delivered k) h w = (omega (arith, w .0), w .1)
-within-more i a b (open! k) h w = omega arith
+pub within-more : (i a b : ℕ) (response : List ℕ) (f : Fate) → a ≤ b → Within a i response f → Within b i response f
+within-more i a b response cut h w = tt
+within-more i a b response (delivered k) h w = (omega (arith, w .0), w .1)
+within-more i a b response (open! k) h w = omega arith
 
 pub at-most-264 : AtMost264
 at-most-264 eid store0 store1 a b xs ys i is t =
     let h = run xs (start eid store0 store1) in
     let k = demand-3 eid store0 store1 a b xs ys i is t in
-    within-more i (h .counted + pollsFor (packetsLeft i h)) (h .counted + 264) (fate i ys h) (omega (arith, k .1)) (k .2)
+    within-more i (h .counted + pollsFor (packetsLeft i h)) (h .counted + 264) (h .log i .response) (fate i ys h) (omega (arith, k .1)) (k .2)

@@ -1,7 +1,7 @@
 -- What taking, reading, completing, a timeout and a reset do to each slot, its store and its log.
 -- Assumes nothing.
 use Prim.Native.Nat.{ℕ, zero, suc, _+_, _-_, _*_, _/_, _%_, _^_, _≤_, _<_}
-use mathlib.Core.Path.{_≡_, refl, sym, _∙_}
+use mathlib.Core.Path.{_≡_, refl, sym, ap, _∙_}
 use mathlib.Core.Bool.{true, false, not, _&&_, _||_}
 use mathlib.Core.List.{List, _∷_, _++_}
 use native.Mathlib.Omega.{arith}
@@ -21,7 +21,7 @@ use Rattle.machine.specs.Finish.{isSlot, takenRequest, takenRow, takenFr
 use Rattle.machine.specs.Poll.{otherSlot}
 use Rattle.machine.specs.Valid.{Valid, Sound}
 use Rattle.machine.specs.Calls.{take!, read, complete, timeout, number, given, stepped, byOutcome, byDone, byTake, step}
-use Rattle.machine.specs.History.{Log, phaseAt, completing, commanded, transmitted}
+use Rattle.machine.specs.History.{Log, phaseAt, completing, taking, commanded, transmitted}
 use Rattle.machine.specs.declared.Ticket.{Ticket}
 use Rattle.machine.specs.declared.Taking.{Taking}
 use Rattle.machine.specs.declared.Taking.the-variants.{Untaken, Taken}
@@ -34,36 +34,44 @@ use Rattle.machine.specs.declared.TakeDone.{TakeDone}
 use Rattle.machine.proofs.Slots.{isEarly, other-most}
 use Rattle.machine.proofs.Keeps.{slot-most}
 use Rattle.machine.proofs.Places.{Which, this, that, which, other-differs, slot-this, slot-that, store-this, store-that}
-use Rattle.machine.proofs.Fits.{Asked, Fit, stayed, worked, Carried, quiet-other, carried-same, carried-ended, carried-cut, carried-settled, settled-begun, settled-process, response-is}
+use Rattle.machine.proofs.Fits.{takesOf, Asked, Fit, stayed, handed-over, worked, Carried, quiet-other, carried-same, carried-ended, carried-cut, carried-settled, settled-process, response-is}
 use Rattle.machine.proofs.Received.{Carries}
 
 module _ (w₀ : World) (log : ℕ → Log) (s₀ : Sound w₀)
     (fits : (j : ℕ) → j ≤ 1 → Fit (slotAt (w₀ .endpoint) j) (storeAt w₀ j) (log j)) where
   -- ---- taking
 
-  took : (i : ℕ) → i ≤ 1 → (r : Request) → phaseAt w₀ i ≡ Process r
+  took : (i : ℕ) → i ≤ 1 → (r : Request) → phaseAt w₀ i ≡ Process r → r .taking ≡ Untaken
       → Carries (take! i) w₀ log (stepped (given (slotAt (w₀ .endpoint) i .ticket)) (withEndpoint w₀ (withSlot (w₀ .endpoint) i (withPhase (slotAt (w₀ .endpoint) i) (Process (takenRequest r))))))
-  took i is r p = record { turn-is = refl; last-is = refl; carried = λ j js. at j js (which i j is js) }
+  took i is r p u = record { turn-is = refl; last-is = refl; carried = λ j js. at j js (which i j is js) }
     where
       s : Slot
       s = withPhase (slotAt (w₀ .endpoint) i) (Process (takenRequest r))
 
       this-one : Carried (false ≡ true) (slotAt (w₀ .endpoint) i) (withPhase (slotAt (w₀ .endpoint) i) (Process (takenRequest r))) (storeAt w₀ i) (log i)
-          (transmitted (phaseAt w₀ i) (Process (takenRequest r)) (number 0) (log i))
+          (transmitted (phaseAt w₀ i) (Process (takenRequest r)) (number 0) (taking (log i)))
       this-one =
           let k : Asked r (storeAt w₀ i) (log i) = rw p at (fits i is .phase-fits) in
-          rw (quiet-other (phaseAt w₀ i) (Process (takenRequest r)) 0 (log i) refl)
+          let one : log i .takes + 1 ≡ 1 = omega (arith, k .takes-are ∙ ap takesOf u) in
+          rw (quiet-other (phaseAt w₀ i) (Process (takenRequest r)) 0 (taking (log i)) refl)
           (record {
-            fit = record { phase-fits = record { held = k .held; kind-is = k .kind-is; from = k .from; under = k .under }; ticket-is = fits i is .ticket-is };
+            fit =
+                record {
+                  phase-fits = record { held = k .held; kind-is = k .kind-is; from = k .from; under = k .under; unfixed = k .unfixed; takes-are = one };
+                  ticket-is = fits i is .ticket-is;
+                };
             entry = stayed refl (λ h. (rw p refl, refl));
-            steady = worked r p refl;
+            steady = handed-over r p refl;
           })
 
       at : (j : ℕ) → j ≤ 1 → Which i j
           → Carried (false ≡ true) (slotAt (w₀ .endpoint) j) (slotAt (withSlot (w₀ .endpoint) i (withPhase (slotAt (w₀ .endpoint) i) (Process (takenRequest r)))) j) (storeAt w₀ j) (log j)
-          (transmitted (phaseAt w₀ j) (slotAt (withSlot (w₀ .endpoint) i (withPhase (slotAt (w₀ .endpoint) i) (Process (takenRequest r)))) j .phase) (number 0) (log j))
-      at j js (this q) = rw (q, slot-this i is (s₀ .state) (withPhase (slotAt (w₀ .endpoint) i) (Process (takenRequest r)))) this-one
-      at j js (that q) = rw (q, slot-that i is (s₀ .state) (withPhase (slotAt (w₀ .endpoint) i) (Process (takenRequest r)))) (carried-same 0 refl refl (fits (otherSlot i) (other-most i)))
+          (transmitted (phaseAt w₀ j) (slotAt (withSlot (w₀ .endpoint) i (withPhase (slotAt (w₀ .endpoint) i) (Process (takenRequest r)))) j .phase) (number 0)
+          (if eqb i j then taking (log j) else log j))
+      at j js (this q) = rw (q, slot-this i is (s₀ .state) (withPhase (slotAt (w₀ .endpoint) i) (Process (takenRequest r))), eq-eqb i i refl) this-one
+      at j js (that q) =
+          rw (q, slot-that i is (s₀ .state) (withPhase (slotAt (w₀ .endpoint) i) (Process (takenRequest r))), ne-eqb i (otherSlot i) (λ e. other-differs i is (sym e)))
+          (carried-same 0 refl refl (fits (otherSlot i) (other-most i)))
 
   pub take-carries : (i : ℕ) → Carries (take! i) w₀ log (byTake w₀ (taken (w₀ .endpoint) i))
   unfolding taken
@@ -75,14 +83,14 @@ module _ (w₀ : World) (log : ℕ → Log) (s₀ : Sound w₀)
       none : {n : ℕ} → Carries (take! i) w₀ log (stepped (number n) w₀)
       none = record { turn-is = refl; last-is = refl; carried = λ j js. carried-same 0 refl refl (fits j js) }
 
-      row : i ≤ 1 → (r : Request) (t : Taking) → phaseAt w₀ i ≡ Process r → After (takenRow (w₀ .endpoint) i r t)
-      row is r Untaken p = took i is r p
-      row is r Taken p = none
+      row : i ≤ 1 → (r : Request) (t : Taking) → r .taking ≡ t → phaseAt w₀ i ≡ Process r → After (takenRow (w₀ .endpoint) i r t)
+      row is r Untaken u p = took i is r p u
+      row is r Taken u p = none
 
       from : i ≤ 1 → (p : Phase) → phaseAt w₀ i ≡ p → After (takenFrom (w₀ .endpoint) i p)
       from is Idle p = none
       from is (Receive a) p = none
-      from is (Process r) p = row is r (r .taking) p
+      from is (Process r) p = row is r (r .taking) refl p
       from is (Answered r) p = none
       from is (Transmit r) p = none
 
@@ -124,7 +132,7 @@ module _ (w₀ : World) (log : ℕ → Log) (s₀ : Sound w₀)
           let b = slotAt (w₀ .endpoint) i .paused in
           carried-settled (completing i body (log i)) 0 b (responseTo r body) (rw p refl) refl refl
           (record { held = lies ∙ text-is; size = rw (sym text-is) n; to = k .from; under = k .under }) (fits i is .ticket-is)
-          (stayed refl (λ h. false-true (sym (settled-process b (responseTo r body)) ∙ h))) (worked r p (settled-begun b (responseTo r body) refl))
+          (stayed refl (λ h. false-true (sym (settled-process b (responseTo r body)) ∙ h))) (worked r b (responseTo r body) p refl refl)
 
       at : (j : ℕ) → j ≤ 1 → Which i j
           → Carried (false ≡ true) (slotAt (w₀ .endpoint) j) (slotAt (withSlot (w₀ .endpoint) i s) j) (storeAt (withStore w₀ i (put (storeAt w₀ i) response-place text)) j) (log j)

@@ -1,7 +1,7 @@
 -- How a slot, its store and the history's log of it fit together, and what one call may do to them.
 -- Assumes nothing.
 use Prim.Native.Nat.{ℕ, _+_, _-_, _*_, _/_, _%_, _^_, _≤_, _<_}
-use mathlib.Core.Path.{_≡_, refl, sym, _∙_}
+use mathlib.Core.Path.{_≡_, refl, sym, ap, _∙_}
 use mathlib.Core.Bool.{Bool, true, false, not, _&&_, _||_}
 use mathlib.Core.List.{List, [], _∷_, _++_}
 use native.Mathlib.Nat.{mod-lt, mod-eq-of-lt, zero-lt-suc}
@@ -18,10 +18,13 @@ use Rattle.nvme_mi.specs.declared.Fault.{Fault}
 use Rattle.nvme_mi.specs.declared.Fault.the-variants.{NoFault, Parameter, Failure}
 use Rattle.machine.specs.State.{World, settled}
 use Rattle.machine.specs.Wire.{unit}
+use Rattle.machine.specs.Finish.{takenRequest}
 use Rattle.machine.specs.Calls.{receive, number}
-use Rattle.machine.specs.Valid.{isBegun}
+use Rattle.machine.specs.Valid.{isBegun, PhaseFacts}
 use Rattle.machine.specs.History.{Log, isTransmit, kindOf, responseFor, leastLength, fixedAtEntry, commanded, sending, transmitted}
 use Rattle.machine.specs.Demands.{isProcess}
+use Rattle.machine.specs.declared.Taking.{Taking}
+use Rattle.machine.specs.declared.Taking.the-variants.{Untaken, Taken}
 use Rattle.machine.specs.declared.Request.{Request}
 use Rattle.machine.specs.declared.Response.{Response}
 use Rattle.machine.specs.declared.Phase.{Phase}
@@ -31,12 +34,20 @@ use Rattle.machine.proofs.Slots.{isEarly}
 
 -- ---- the fit
 
--- a command in Process: the store's front is the request, and the state has its kind, sender and tag
+-- how often a command in Process was taken
+abbrev pub takesOf : Taking → ℕ
+takesOf Untaken = 0
+takesOf Taken = 1
+
+-- a command in Process: the store's front is the request, the state has its kind, sender and tag, no response is fixed, and the log counts
+-- its take
 pub record Asked (r : Request) (store : List ℕ) (l : Log) : Type 0 where
   pub held : take (r .length) store ≡ l .request
   pub kind-is : r .kind ≡ kindOf (l .request)
   pub from : r .source ≡ l .requester
   pub under : r .tag ≡ l .tag
+  pub unfixed : l .response ≡ []
+  pub takes-are : l .takes ≡ takesOf (r .taking)
 
 -- a response that is there: the store's front is the response of the last entry, to its requester under its tag
 pub record Full (r : Response) (store : List ℕ) (l : Log) : Type 0 where
@@ -64,7 +75,7 @@ pub record Fit (s : Slot) (store : List ℕ) (l : Log) : Type 0 where
 -- ---- what a call does to a slot's entries and request
 
 pub data Entry (p q : Phase) (l m : Log) : Type 0 where
-  entered : m .entries ≡ l .entries + 1 → Entry p q l m
+  entered : isEarly p ≡ true → isEarly q ≡ false → m .entries ≡ l .entries + 1 → Entry p q l m
   stayed : m .entries ≡ l .entries → (isProcess q ≡ true → (isProcess p ≡ true) × (m .request ≡ l .request)) → Entry p q l m
 
 -- ---- what a call other than poll does to a slot's phase; C says that it cuts the slot off
@@ -73,7 +84,8 @@ pub data Steady (C : Type 0) (p q : Phase) : Type 0 where
   same : q ≡ p → Steady C p q
   newly : isEarly p ≡ true → isBegun q ≡ false → Steady C p q
   released : (r : Response) → p ≡ Answered r → q ≡ Transmit r → Steady C p q
-  worked : (r : Request) → p ≡ Process r → isBegun q ≡ false → Steady C p q
+  handed-over : (r : Request) → p ≡ Process r → q ≡ Process (takenRequest r) → Steady C p q
+  worked : (r : Request) (b : Bool) (x : Response) → p ≡ Process r → q ≡ settled b x → x .sent ≡ 0 → Steady C p q
   fell : C → q ≡ Idle → Steady C p q
 
 pub record Carried (C : Type 0) (s t : Slot) (store : List ℕ) (l m : Log) : Type 0 where
@@ -190,7 +202,7 @@ fixed-is i request =
 -- ---- a response that is there for the first time
 
 entry-sending : {p q : Phase} {l m : Log} → Entry p q l m → Entry p q l (sending m 0 [])
-entry-sending (entered e) = entered e
+entry-sending (entered a b e) = entered a b e
 entry-sending (stayed e f) = stayed e f
 
 -- it goes to Transmit at once, unless the slot's own flag is set
@@ -216,6 +228,10 @@ pub settled-begun : (b : Bool) (r : Response) → r .sent ≡ 0 → isBegun (set
 settled-begun true r z = refl
 settled-begun false r z = rw z refl
 
+pub settled-late : (b : Bool) (r : Response) → isEarly (settled b r) ≡ false
+settled-late true r = refl
+settled-late false r = refl
+
 pub settled-process : (b : Bool) (r : Response) → isProcess (settled b r) ≡ false
 settled-process true r = refl
 settled-process false r = refl
@@ -223,3 +239,30 @@ settled-process false r = refl
 -- the ticket count and the entries rise together
 pub next-ticket : (t e : ℕ) → t ≡ e % 2 ^ 32 → (t + 1) % 2 ^ 32 ≡ (e + 1) % 2 ^ 32
 next-ticket t e h = rw h (omega arith)
+
+-- ---- a response that is there: it waits in Process, or is being sent
+
+pub data There (q : Phase) : Type 0 where
+  waits : (r : Response) → q ≡ Answered r → There q
+  goes : (r : Response) → q ≡ Transmit r → There q
+
+pub settled-there : (b : Bool) (r : Response) {q : Phase} → q ≡ settled b r → There q
+settled-there true r e = waits r e
+settled-there false r e = goes r e
+
+pub answered-not : {A : Type 0} {r : Response} {x : Request} → Answered r ≡ Process x → A
+answered-not {r = r} {x = x} e = absurd (omega (arith, differ e))
+  where
+    differ : Answered r ≡ Process x → _≡_ {A = ℕ} 0 1
+    differ e = cc
+
+-- the log has it, and it is not empty
+pub some-response : (s : Slot) (store : List ℕ) (l : Log) → Fit s store l → PhaseFacts (s .paused) (s .phase) → There (s .phase) → l .response ≡ [] → ⊥
+some-response s store l f v (waits r e) none =
+    let k : Full r store l = rw e at (f .phase-fits) in
+    let b : PhaseFacts (s .paused) (Answered r) = rw e at v in
+    omega (arith, k .size, ap (λ (x : List ℕ). length x) none, b .2 .least)
+some-response s store l f v (goes r e) none =
+    let k : Going r store l = rw e at (f .phase-fits) in
+    let b : PhaseFacts (s .paused) (Transmit r) = rw e at v in
+    omega (arith, k .full .size, ap (λ (x : List ℕ). length x) none, b .1 .least)

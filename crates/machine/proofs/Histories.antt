@@ -14,6 +14,7 @@ use Rattle.machine.specs.Finish.{wasSetUp}
 use Rattle.machine.specs.Valid.{Sound}
 use Rattle.machine.specs.Calls.{Call, receive, take!, read, complete, poll, timeout, reset, step, begin}
 use Rattle.machine.specs.History.{Log, History, logAfter, next, run, start}
+use Rattle.machine.specs.Demands.{AlwaysSound}
 use Rattle.machine.specs.declared.Slot.{Slot}
 use Rattle.machine.specs.declared.Done.{Done}
 use Rattle.machine.proofs.Keeps.{begin-valid, step-sound}
@@ -91,3 +92,6 @@ good-start eid store0 store1 a b =
 -- every list of calls from any setup
 pub good-every : (eid : ℕ) (store0 store1 : List ℕ) → length store0 ≡ store-size → length store1 ≡ store-size → (xs : List Call) → Good (run xs (start eid store0 store1))
 good-every eid store0 store1 a b xs = good-run xs (start eid store0 store1) (good-start eid store0 store1 a b)
+
+pub always-sound : AlwaysSound
+always-sound eid store0 store1 a b xs = good-every eid store0 store1 a b xs .sound

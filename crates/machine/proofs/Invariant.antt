@@ -78,11 +78,11 @@ of-turn false turn i h = refl
 -- ---- the whole
 
 -- each test of a list holds
-abbrev Each : List Bool → Type 0
+abbrev pub Each : List Bool → Type 0
 Each [] = Unit {0}
 Each (b ∷ bs) = (b ≡ true) × Each bs
 
-each : (l : List Bool) → allOf l ≡ true → Each l
+pub each : (l : List Bool) → allOf l ≡ true → Each l
 each [] h = tt
 each (b ∷ bs) h = let k = and-both b (allOf bs) h in (k .0, each bs (k .1))
 

@@ -377,11 +377,11 @@ sound-walk w₀ packet s₀ =
       sound = λ w s. s;
       unread = λ n _ _. refuse w₀ n s₀;
       refusing = λ w n _ s. refuse w n s;
-      busying = λ w i is s. sound-endpoint s (busied-valid i is true (s .state));
-      dropping = λ w i n _ is _ s. refuse (dropped w i) n (sound-endpoint s (idled-valid i is (s .state)));
+      busying = λ w i b s. sound-endpoint s (busied-valid i (b .slot-is) true (s .state));
+      dropping = λ w i n _ g s. refuse (dropped w i) n (sound-endpoint s (idled-valid i (g .slot-is) (s .state)));
       failing = λ w i at j s. refuse _ 19 (let f = fill w i at j s in sound-endpoint f (idled-valid i (j .slot-is) (f .state)));
       gaining = λ w i at j lo s. sound-endpoint (fill w i at j s) (awaited-valid i (grown w₀ packet at) (j .slot-is) (j .alone) lo (j .fits) (s .state));
-      entering = λ w i at j lo s. entered-sound i (grown w₀ packet at) _ (j .slot-is) lo (j .fits) (fill w i at j s);
+      entering = λ w i at j lo _ s. entered-sound i (grown w₀ packet at) _ (j .slot-is) lo (j .fits) (fill w i at j s);
       controlling = λ w c s. sound-endpoint s (controlled-valid (fields packet) (messageHeader (payloadOf packet)) (payloadOf packet) (csi-most (payloadOf packet)) (s .state));
     }
   where

@@ -1,5 +1,6 @@
 pub mod Slots
 pub mod Receiving
+pub mod Primitives
 pub mod Keeps
 pub mod Invariant
 pub mod Places
@@ -8,6 +9,14 @@ pub mod Received
 pub mod Finished
 pub mod Polling
 pub mod Histories
-pub mod Delivery
 pub mod Tickets
+pub mod Responses
+pub mod Delivery
+pub mod Numbers
+pub mod Arrives
 pub mod Refusals
+pub mod Stale
+pub mod Commands
+pub mod Replies
+pub mod Identity
+pub mod Pauses

@@ -3,17 +3,18 @@
 use Prim.Native.Nat.{ℕ, _+_, _-_, _*_, _/_, _%_, _^_, _≤_, _<_}
 use mathlib.Core.Path.{_≡_, refl, sym, ap, _∙_}
 use mathlib.Core.Bool.{Bool, true, false, _&&_, _||_}
-use mathlib.Core.List.{List, _∷_, _++_}
+use mathlib.Core.List.{List, [], _∷_, _++_}
 use native.Mathlib.Omega.{arith}
 use lib.Dec.{eqb}
-use lib.ListN.{length, take, length-drop}
+use lib.ListN.{length, take}
 use lib.Seq.{getD-drop, length-take-le}
 use borrow.Author.Tests.{eq-eqb, ne-eqb, eqb-true}
 use Rattle.lent.specs.Choice.{if_then_else_}
 use Rattle.lent.specs.Bytes.{byteAt, put}
-use Rattle.lent.proofs.Choice.{if-ind, if-second, false-true}
+use Rattle.lent.proofs.Choice.{if-ind, false-true, both-and}
 use Rattle.lent.proofs.Stores.{length-put, take-put}
 use Rattle.mctp.specs.Header.{fields, payloadOf}
+use Rattle.nvme_mi.specs.Check.{checkRight}
 use Rattle.nvme_mi.specs.Message.{messageHeader, commandFault, controlFault}
 use Rattle.nvme_mi.specs.Response.{response, faultBody}
 use Rattle.nvme_mi.proofs.Laws.{length-response}
@@ -28,7 +29,7 @@ use Rattle.machine.specs.Receive.{refused, refusedBusy, dropped, gathers
 use Rattle.machine.specs.Poll.{otherSlot}
 use Rattle.machine.specs.Valid.{Valid, Sound, PhaseFacts}
 use Rattle.machine.specs.Calls.{Call, receive, number, Stepped, byOutcome}
-use Rattle.machine.specs.History.{Log, phaseAt, hasSom, sourceOf, messageTagOf, receivesFrom, isTransmit, isFor, requestWith, responseFor, fixedAtEntry, gaining, entering, commanded, transmitted, logAfter, isAbort, cuts}
+use Rattle.machine.specs.History.{Log, phaseAt, hasSom, sourceOf, messageTagOf, isTransmit, isFor, requestWith, responseFor, fixedAtEntry, gaining, entering, commanded, transmitted, logAfter, isPrimitive, isAbort, cuts}
 use Rattle.machine.specs.declared.Request.{Request}
 use Rattle.machine.specs.declared.Phase.{Phase}
 use Rattle.machine.specs.declared.Phase.the-variants.{Idle, Receive, Process, Answered, Transmit}
@@ -36,10 +37,11 @@ use Rattle.machine.specs.declared.Slot.{Slot}
 use Rattle.machine.specs.declared.Endpoint.{Endpoint}
 use Rattle.machine.specs.declared.Acted.{Acted}
 use Rattle.machine.proofs.Slots.{isEarly, facts-at, other-most}
-use Rattle.machine.proofs.Receiving.{Origin, opens, goes-on, Joining, filled, grown, whole, Controls, Ground, in-table, of-no-slot, Break, in-sequence, in-size, in-total, Walk, read-facts, csi-most, walked}
+use Rattle.machine.proofs.Receiving.{Origin, opens, goes-on, Joining, filled, grown, whole, Controls, Ground, in-table, of-no-slot, Busy, Gathering, Break, in-sequence, in-size, in-total, Walk, csi-most, receives-gathers, walked}
+use Rattle.machine.proofs.Primitives.{is-primitive}
 use Rattle.machine.proofs.Keeps.{sound-endpoint, store-at, kept-quiet, pause-valid, end-valid}
 use Rattle.machine.proofs.Places.{Which, this, that, which, other-differs, slot-this, slot-that, slot-both, store-this, store-that, take-joined}
-use Rattle.machine.proofs.Fits.{Fit, entered, stayed, newly, Carried, quiet-other, refusal-log, carried-same, carried-ended, carried-cut, carried-released, carried-settled, settled-begun, next-ticket, response-is, atEntry, fixed-is}
+use Rattle.machine.proofs.Fits.{Fit, entered, stayed, newly, Carried, quiet-other, refusal-log, carried-same, carried-ended, carried-cut, carried-released, carried-settled, settled-begun, settled-late, next-ticket, response-is, atEntry, fixed-is}
 
 -- what a call does to both slots, with the logs before it, and to what polling goes by
 pub record Carries (c : Call) (w : World) (log : ℕ → Log) (s : Stepped) : Type 0 where
@@ -54,17 +56,17 @@ module _ (w₀ : World) (packet : List ℕ) (log : ℕ → Log) (s₀ : Sound w�
   eid₀ = w₀ .endpoint .eid
 
   -- on the way through Receiving: a slot is as it was, or its assembly has ended
-  data MidPhase (p q : Phase) : Type 0 where
+  pub data MidPhase (p q : Phase) : Type 0 where
     kept : q ≡ p → MidPhase p q
     ended : hasSom packet ≡ true → isEarly p ≡ true → q ≡ Idle → MidPhase p q
 
-  record Mid (w : World) : Type 0 where
-    sound : Sound w
-    turn-is : w .endpoint .turn ≡ w₀ .endpoint .turn
-    last-is : w .endpoint .«last_control» ≡ w₀ .endpoint .«last_control»
-    stores : (j : ℕ) → storeAt w j ≡ storeAt w₀ j
-    tickets : (j : ℕ) → j ≤ 1 → slotAt (w .endpoint) j .ticket ≡ slotAt (w₀ .endpoint) j .ticket
-    phases : (j : ℕ) → j ≤ 1 → MidPhase (phaseAt w₀ j) (phaseAt w j)
+  pub record Mid (w : World) : Type 0 where
+    pub sound : Sound w
+    pub turn-is : w .endpoint .turn ≡ w₀ .endpoint .turn
+    pub last-is : w .endpoint .«last_control» ≡ w₀ .endpoint .«last_control»
+    pub stores : (j : ℕ) → storeAt w j ≡ storeAt w₀ j
+    pub tickets : (j : ℕ) → j ≤ 1 → slotAt (w .endpoint) j .ticket ≡ slotAt (w₀ .endpoint) j .ticket
+    pub phases : (j : ℕ) → j ≤ 1 → MidPhase (phaseAt w₀ j) (phaseAt w j)
 
   abbrev Ends : Outcome → Type 0
   Ends o = Carries (receive packet) w₀ log (byOutcome o)
@@ -96,7 +98,7 @@ module _ (w₀ : World) (packet : List ℕ) (log : ℕ → Log) (s₀ : Sound w�
   -- a refusal's number is never that of a packet that is taken in
   ground-least : {n : ℕ} → Ground w₀ packet n → 3 ≤ n
   ground-least (in-table _ lo _) = omega arith
-  ground-least (of-no-slot _) = omega arith
+  ground-least (of-no-slot _ _) = omega arith
 
   break-least : {n : ℕ} → Break w₀ packet n → 3 ≤ n
   break-least (in-sequence _) = omega arith
@@ -144,10 +146,11 @@ module _ (w₀ : World) (packet : List ℕ) (log : ℕ → Log) (s₀ : Sound w�
       at j js (this e) = rw e (k .this-slot)
       at j js (that e) = rw e (that-one (rw e at js))
 
-  busying : (w : World) (i : ℕ) → i ≤ 1 → Mid w → Ends (refusedBusy w i)
+  busying : (w : World) (i : ℕ) → Busy w₀ packet w i → Mid w → Ends (refusedBusy w i)
   unfolding refusedBusy
-  busying w i is m =
+  busying w i b₀ m =
       let v = m .sound .state in
+      let is = b₀ .slot-is in
       let s = withBusy (slotAt (w .endpoint) i) true in
       let a : slotAt (withSlot (w .endpoint) i s) i ≡ s = slot-this i is v s in
       let b : slotAt (withSlot (w .endpoint) i s) (otherSlot i) ≡ slotAt (w .endpoint) (otherSlot i) = slot-that i is v s in
@@ -162,10 +165,12 @@ module _ (w₀ : World) (packet : List ℕ) (log : ℕ → Log) (s₀ : Sound w�
         this-slot = rw (a, m .stores i) (mid-carried w m 20 i is s refl refl);
       })
 
-  dropping : (w : World) (i n : ℕ) → Break w₀ packet n → i ≤ 1 → isEarly (phaseAt w i) ≡ true → Mid w → Ends (refused (dropped w i) n)
+  dropping : (w : World) (i n : ℕ) → Break w₀ packet n → Gathering w₀ packet w i → Mid w → Ends (refused (dropped w i) n)
   unfolding refused
-  dropping w i n k is early m =
+  dropping w i n k a₀ m =
       let h = break-least k in
+      let is = a₀ .slot-is in
+      let early : isEarly (phaseAt w i) ≡ true = rw (a₀ .gathers-it) refl in
       let v = m .sound .state in
       let s = idled (slotAt (w .endpoint) i) in
       let a : slotAt (withSlot (w .endpoint) i s) i ≡ s = slot-this i is v s in
@@ -204,13 +209,6 @@ module _ (w₀ : World) (packet : List ℕ) (log : ℕ → Log) (s₀ : Sound w�
 
   -- ---- a command's packet
 
-  receives-gathers : (source tag : ℕ) (p : Phase) → receivesFrom source tag p ≡ gathers source tag p
-  receives-gathers source tag Idle = refl
-  receives-gathers source tag (Receive a) = refl
-  receives-gathers source tag (Process r) = refl
-  receives-gathers source tag (Answered r) = refl
-  receives-gathers source tag (Transmit r) = refl
-
   -- without SOM no assembly has ended
   phase-before : (w : World) → Mid w → (j : ℕ) → j ≤ 1 → hasSom packet ≡ false → phaseAt w j ≡ phaseAt w₀ j
   phase-before w m j js som = go (m .phases j js)
@@ -222,7 +220,7 @@ module _ (w₀ : World) (packet : List ℕ) (log : ℕ → Log) (s₀ : Sound w�
   csi-is : byteAt packet 5 % 2 ≡ byteAt (payloadOf packet) 1 % 2
   csi-is = rw (getD-drop 4 packet 1 0) refl
 
-  for-this : (w : World) (i at : ℕ) → Mid w → Joining w₀ packet w i at → isFor i packet w₀ ≡ true
+  pub for-this : (w : World) (i at : ℕ) → Mid w → Joining w₀ packet w i at → isFor i packet w₀ ≡ true
   for-this w i at m j = go (j .origin)
     where
       go : {n : ℕ} → Origin w₀ packet w i n → isFor i packet w₀ ≡ true
@@ -230,7 +228,7 @@ module _ (w₀ : World) (packet : List ℕ) (log : ℕ → Log) (s₀ : Sound w�
       go (goes-on som a ph fr) =
           rw (som, receives-gathers (sourceOf packet) (messageTagOf packet) (phaseAt w₀ i), sym (phase-before w m i (j .slot-is) som), ph) fr
 
-  for-that : (w : World) (i at : ℕ) → Mid w → Joining w₀ packet w i at → isFor (otherSlot i) packet w₀ ≡ false
+  pub for-that : (w : World) (i at : ℕ) → Mid w → Joining w₀ packet w i at → isFor (otherSlot i) packet w₀ ≡ false
   for-that w i at m j = go (j .origin)
     where
       go : {n : ℕ} → Origin w₀ packet w i n → isFor (otherSlot i) packet w₀ ≡ false
@@ -249,7 +247,7 @@ module _ (w₀ : World) (packet : List ℕ) (log : ℕ → Log) (s₀ : Sound w�
       none false false = refl
 
   -- the store's front is then the request so far
-  front : (w : World) (i at : ℕ) → Mid w → Joining w₀ packet w i at → whole w₀ packet w i at ≡ requestWith packet (log i)
+  pub front : (w : World) (i at : ℕ) → Mid w → Joining w₀ packet w i at → whole w₀ packet w i at ≡ requestWith packet (log i)
   front w i at m j = rw (store-this w i (j .slot-is) (put (storeAt w i) at (payloadOf packet))) (go (j .fits) (j .origin))
     where
       room : {n : ℕ} → n + length (payloadOf packet) ≤ store-size → n ≤ length (storeAt w i)
@@ -323,40 +321,40 @@ module _ (w₀ : World) (packet : List ℕ) (log : ℕ → Log) (s₀ : Sound w�
   paused-alike b e = if-ind (Alike e) b (λ _. pause-alike e) (λ _. itself e)
 
   module _ (w : World) (i at : ℕ) (j : Joining w₀ packet w i at) (lo : smallest ≤ at + length (payloadOf packet)) (m : Mid w) where
-    abbrev asked : List ℕ
+    abbrev pub asked : List ℕ
     asked = requestWith packet (log i)
 
-    abbrev mh : MessageHeader
+    abbrev pub mh : MessageHeader
     mh = messageHeader (whole w₀ packet w i at)
 
-    abbrev command : Request
+    abbrev pub command : Request
     command = request (grown w₀ packet at) mh
 
-    abbrev e₁ : Endpoint
+    abbrev pub e₁ : Endpoint
     e₁ = withSlot (w .endpoint) i (processing (slotAt (w .endpoint) i) command)
 
-    abbrev e₂ : Endpoint
+    abbrev pub e₂ : Endpoint
     e₂ = pausedIf (mh .ciap) e₁
 
-    abbrev w₂ : World
+    abbrev pub w₂ : World
     w₂ = withEndpoint (filled w₀ packet w i at) e₂
 
     e₁-valid : Valid e₁
     e₁-valid = kept-quiet i (j .slot-is) (m .sound .state) (processing (slotAt (w .endpoint) i) command) (lo, j .fits) refl
 
-    e₂-valid : Valid e₂
+    pub e₂-valid : Valid e₂
     e₂-valid = if-ind Valid (mh .ciap) (λ _. pause-valid e₁-valid) (λ _. e₁-valid)
 
     alike : Alike e₁ e₂
     alike = paused-alike (mh .ciap) e₁
 
-    this-at : slotAt e₁ i ≡ processing (slotAt (w .endpoint) i) command
+    pub this-at : slotAt e₁ i ≡ processing (slotAt (w .endpoint) i) command
     this-at = slot-this i (j .slot-is) (m .sound .state) (processing (slotAt (w .endpoint) i) command)
 
-    that-at : slotAt e₁ (otherSlot i) ≡ slotAt (w .endpoint) (otherSlot i)
+    pub that-at : slotAt e₁ (otherSlot i) ≡ slotAt (w .endpoint) (otherSlot i)
     that-at = slot-that i (j .slot-is) (m .sound .state) (processing (slotAt (w .endpoint) i) command)
 
-    in-process : slotAt e₂ i .phase ≡ Process command
+    pub in-process : slotAt e₂ i .phase ≡ Process command
     in-process = alike .same-phase i (j .slot-is) ∙ rw this-at refl
 
     that-phase : slotAt e₂ (otherSlot i) .phase ≡ phaseAt w (otherSlot i)
@@ -371,10 +369,10 @@ module _ (w₀ : World) (packet : List ℕ) (log : ℕ → Log) (s₀ : Sound w�
         alike .same-ticket i (j .slot-is) ∙ rw (this-at, m .tickets i (j .slot-is)) refl in
         rw t (next-ticket (slotAt (w₀ .endpoint) i .ticket .0) (log i .entries) (fits i (j .slot-is) .ticket-is))
 
-    whole-is : whole w₀ packet w i at ≡ asked
+    pub whole-is : whole w₀ packet w i at ≡ asked
     whole-is = front w i at m j
 
-    size-is : at + length (payloadOf packet) ≡ length asked
+    pub size-is : at + length (payloadOf packet) ≡ length asked
     size-is =
         let room : at + length (payloadOf packet) ≤ length (storeAt (filled w₀ packet w i at) i) =
         rw (store-this w i (j .slot-is) (put (storeAt w i) at (payloadOf packet)), length-put (storeAt w i) at (payloadOf packet) fit, store-at i (m .sound)) (j .fits) in
@@ -387,8 +385,8 @@ module _ (w₀ : World) (packet : List ℕ) (log : ℕ → Log) (s₀ : Sound w�
     was = was-early w m i (j .slot-is) (j .early)
 
     -- it waits to be taken
-    waits : Ends (outcome 1 w₂)
-    waits =
+    waits : fixedAtEntry i asked ≡ [] → Ends (outcome 1 w₂)
+    waits none =
         one-slot w i (outcome 1 w₂) (j .slot-is) m
         (record {
           turn-same = alike .same-turn;
@@ -402,10 +400,10 @@ module _ (w₀ : World) (packet : List ℕ) (log : ℕ → Log) (s₀ : Sound w�
               (record {
                 fit =
                     record {
-                      phase-fits = rw in-process (record { held = whole-is; kind-is = rw whole-is refl; from = refl; under = refl });
+                      phase-fits = rw in-process (record { held = whole-is; kind-is = rw whole-is refl; from = refl; under = refl; unfixed = none; takes-are = refl });
                       ticket-is = ticket-next;
                     };
-                entry = entered refl;
+                entry = entered was (rw in-process refl) refl;
                 steady = newly was (rw in-process refl);
               });
         })
@@ -436,7 +434,7 @@ module _ (w₀ : World) (packet : List ℕ) (log : ℕ → Log) (s₀ : Sound w�
           this-slot =
               rw (a, for-this w i at m j)
               (carried-settled (entering i packet (log i)) 1 b r (early-silent (phaseAt w₀ i) was) refl refl
-              (record { held = rw stored (lies ∙ text-is); size = rw (sym text-is) n; to = refl; under = refl }) ticket-next (entered refl)
+              (record { held = rw stored (lies ∙ text-is); size = rw (sym text-is) n; to = refl; under = refl }) ticket-next (entered was (settled-late b r) refl)
               (newly was (settled-begun b r refl)));
         })
 
@@ -444,14 +442,14 @@ module _ (w₀ : World) (packet : List ℕ) (log : ℕ → Log) (s₀ : Sound w�
     at-once f e = let k : commandFault (messageHeader asked) (length asked) ≡ f = rw (whole-is, size-is) at e in go f (fixed-is i asked ∙ ap (atEntry i asked) k)
       where
         go : (f : Fault) → fixedAtEntry i asked ≡ atEntry i asked f → Ends (outcome 1 (respondedAtOnce w₂ i command f))
-        go NoFault k = waits
+        go NoFault k = waits k
         go (Parameter byte bit) k = answered (faultBody (Parameter byte bit)) k
         go (Failure status) k = answered (faultBody (Failure status)) k
 
-  enter : (w : World) (i at : ℕ) → Joining w₀ packet w i at → smallest ≤ at + length (payloadOf packet) → Mid w
+  enter : (w : World) (i at : ℕ) → Joining w₀ packet w i at → smallest ≤ at + length (payloadOf packet) → checkRight (whole w₀ packet w i at) ≡ true → Mid w
       → Ends (outcome 1 (enteredWorld (filled w₀ packet w i at) i (grown w₀ packet at) (messageHeader (whole w₀ packet w i at))))
   unfolding enteredWorld
-  enter w i at j lo m = at-once w i at j lo m (commandFault (messageHeader (whole w₀ packet w i at)) (at + length (payloadOf packet))) refl
+  enter w i at j lo _ m = at-once w i at j lo m (commandFault (messageHeader (whole w₀ packet w i at)) (at + length (payloadOf packet))) refl
 
   -- ---- a control primitive
 
@@ -527,46 +525,11 @@ module _ (w₀ : World) (packet : List ℕ) (log : ℕ → Log) (s₀ : Sound w�
       ticket j (that q) = rw (q, slot-that i is v (withBusy (slotAt e i) false)) refl
 
   -- a primitive with opcode 2 that passed its tests is an Abort in the document's words
-  no-fault : {A : Type 0} {f : Fault} → f ≡ NoFault → (f ≡ NoFault → _≡_ {A = ℕ} 0 1) → A
-  no-fault e k = absurd (omega (arith, k e))
-
-  unfaulted : (h : MessageHeader) (opcode : ℕ) → controlFault h opcode ≡ NoFault → (h .meb ≡ false) × (h .ciap ≡ false)
-  unfolding controlFault
-  unfaulted h opcode e =
-      let a = if-second (h .meb) (λ k. no-fault k (λ q. cc)) e in
-      let b = if-second (h .ciap) (λ k. no-fault k (λ q. cc)) (a .1) in
-      (a .0, b .0)
-
-  byte-of : (k : ℕ) → byteAt packet (4 + k) ≡ byteAt (payloadOf packet) k
-  byte-of k = rw (getD-drop 4 packet k 0) refl
-
   is-abort : Controls w₀ packet → controlFault (messageHeader (payloadOf packet)) (opcodeOf (payloadOf packet)) ≡ NoFault
       → opcodeOf (payloadOf packet) ≡ 2 → Cut (messageHeader (payloadOf packet) .csi)
   is-abort c f o =
-      let r = read-facts eid₀ packet (c .read-so) in
-      let u = unfaulted (messageHeader (payloadOf packet)) (opcodeOf (payloadOf packet)) f in
-      let n : length packet ≡ 16 = omega (arith, rw (length-drop 4 packet) at (c .twelve)) in
-      rw (
-        eq-eqb (length packet) 16 n,
-        r .version,
-        r .ours,
-        c .som,
-        c .eom,
-        r .direction,
-        byte-of 0,
-        byte-of 1,
-        byte-of 2,
-        byte-of 4,
-        c .typed,
-        c .request,
-        c .kind,
-        eq-eqb (byteAt (payloadOf packet) 1 % 2) (byteAt (payloadOf packet) 1 % 2) refl,
-        u .0,
-        u .1,
-        o,
-        c .right,
-      )
-      refl
+      let k : isPrimitive 2 eid₀ packet ≡ true = ap (λ (n : ℕ). isPrimitive n eid₀ packet) (sym o) ∙ is-primitive w₀ packet c f in
+      both-and (isPrimitive 2 eid₀ packet) (eqb (byteAt (payloadOf packet) 1 % 2) (byteAt (payloadOf packet) 1 % 2)) k (eq-eqb (byteAt (payloadOf packet) 1 % 2) (byteAt (payloadOf packet) 1 % 2) refl)
 
   primitive-acts : (w : World) → Mid w → (opcode i : ℕ) (clear : Bool) → i ≤ 1 → (opcode ≡ 2 → Cut i) → Acts w (primitive (w .endpoint) opcode i clear)
   unfolding primitive
@@ -610,7 +573,7 @@ module _ (w₀ : World) (packet : List ℕ) (log : ℕ → Log) (s₀ : Sound w�
 
   -- ---- the whole
 
-  start-mid : Mid w₀
+  pub start-mid : Mid w₀
   start-mid = record { sound = s₀; turn-is = refl; last-is = refl; stores = λ j. refl; tickets = λ j js. refl; phases = λ j js. kept refl }
 
   the-walk : Walk w₀ packet Mid Ends
@@ -635,7 +598,7 @@ module _ (w₀ : World) (packet : List ℕ) (log : ℕ → Log) (s₀ : Sound w�
   gathers-early source tag (Answered r) h = h
   gathers-early source tag (Transmit r) h = h
 
-  ended-mid : hasSom packet ≡ true → Mid (withEndpoint w₀ (endAssembly (w₀ .endpoint) (fields packet .source) (fields packet .tag)))
+  pub ended-mid : hasSom packet ≡ true → Mid (withEndpoint w₀ (endAssembly (w₀ .endpoint) (fields packet .source) (fields packet .tag)))
   unfolding endAssembly
   ended-mid som =
       record {

@@ -8,7 +8,7 @@ use native.Mathlib.Nat.{mod-lt, zero-lt-suc}
 use native.Mathlib.Omega.{arith}
 use lib.Dec.{eqb, ltb}
 use lib.ListN.{length, take, length-drop}
-use borrow.Author.Tests.{ltb-false, eqb-true, not-false}
+use borrow.Author.Tests.{ltb-false, eqb-true, not-true, not-false}
 use Rattle.lent.specs.Choice.{if_then_else_}
 use Rattle.lent.specs.Bytes.{byteAt, isSet, put}
 use Rattle.lent.proofs.Choice.{if-ind, if-second, or-left, or-right, false-true}
@@ -27,12 +27,13 @@ use Rattle.machine.specs.Control.{controlled}
 use Rattle.machine.specs.Receive.{refused, refusedBusy, dropped, gathers, isFrom, endAssembly, holder, checked, joined, assembly, gathered, firstControl, firstCommand, firstMessage, first, laterAt, laterBy, later, receivedBy, received}
 use Rattle.machine.specs.Poll.{otherSlot}
 use Rattle.machine.specs.Valid.{Sound, PhaseFacts}
-use Rattle.machine.specs.History.{hasSom}
+use Rattle.machine.specs.History.{hasSom, receivesFrom}
 use Rattle.machine.specs.declared.Assembly.{Assembly}
-use Rattle.machine.specs.declared.Phase.the-variants.{Receive}
+use Rattle.machine.specs.declared.Phase.{Phase}
+use Rattle.machine.specs.declared.Phase.the-variants.{Idle, Receive, Process, Answered, Transmit}
 use Rattle.machine.specs.declared.Holder.{Holder}
 use Rattle.machine.specs.declared.Holder.the-variants.{Nowhere, At}
-use Rattle.machine.proofs.Slots.{isEarly, idle-early, facts-at, alone-at, from-same, Holds, holder-at, ended-at, other-most}
+use Rattle.machine.proofs.Slots.{isEarly, idle-early, facts-at, alone-at, from-same, Holds, holder-at, holder-none, ended-at, other-most}
 
 -- ---- what the tests say of a payload
 
@@ -135,6 +136,14 @@ joins unit limit sequence gathered n h e =
 pub right-stores : (w : World) → Sound w → wrongStores w ≡ false
 right-stores w s = rw (s .size0, s .size1) refl
 
+-- the history's words for an assembly are the machine's
+pub receives-gathers : (source tag : ℕ) (p : Phase) → receivesFrom source tag p ≡ gathers source tag p
+receives-gathers source tag Idle = refl
+receives-gathers source tag (Receive a) = refl
+receives-gathers source tag (Process r) = refl
+receives-gathers source tag (Answered r) = refl
+receives-gathers source tag (Transmit r) = refl
+
 -- CSI is one bit
 pub csi-most : (m : List ℕ) → messageHeader m .csi ≤ 1
 csi-most m = omega (arith, mod-lt (byteAt m 1) (zero-lt-suc 1))
@@ -186,9 +195,23 @@ module _ (w₀ : World) (packet : List ℕ) where
   -- where a packet is refused without its slot: by the second table, or because no slot is in Receive with its source and tag
   pub data Ground : ℕ → Type 0 where
     in-table : {n : ℕ} → hasSom packet ≡ true → 15 ≤ n → n ≤ 19 → Ground n
-    of-no-slot : hasSom packet ≡ false → Ground 21
+    of-no-slot : hasSom packet ≡ false → ((i : ℕ) → i ≤ 1 → gathers (header .source) (header .tag) (slotAt (w₀ .endpoint) i .phase) ≡ false) → Ground 21
 
-  -- and where its slot goes to Idle: 22, 16, 23
+  -- 20: a command's first packet, and the slot that its CSI names is not Idle
+  pub record Busy (w : World) (i : ℕ) : Type 0 where
+    pub slot-is : i ≤ 1
+    pub som : hasSom packet ≡ true
+    pub named : i ≡ byteAt message 1 % 2
+    pub occupied : isIdle (slotAt (w .endpoint) i .phase) ≡ false
+
+  -- a packet without SOM, and the slot that is in Receive with its source and tag
+  pub record Gathering (w : World) (i : ℕ) : Type 0 where
+    pub slot-is : i ≤ 1
+    pub assembly-is : Assembly
+    pub gathers-it : slotAt (w .endpoint) i .phase ≡ Receive assembly-is
+    pub from-it : isFrom (header .source) (header .tag) assembly-is ≡ true
+
+  -- where the slot of such a packet goes to Idle: 22, 16, 23
   pub data Break : ℕ → Type 0 where
     in-sequence : hasSom packet ≡ false → Break 22
     in-size : hasSom packet ≡ false → Break 16
@@ -201,13 +224,13 @@ module _ (w₀ : World) (packet : List ℕ) where
     pub unread : (n : ℕ) → 10 ≤ n → n ≤ 14 → Q (refused w₀ n)
     -- the packet is refused, and no slot with it
     pub refusing : (w : World) (n : ℕ) → Ground n → P w → Q (refused w n)
-    pub busying : (w : World) (i : ℕ) → i ≤ 1 → P w → Q (refusedBusy w i)
+    pub busying : (w : World) (i : ℕ) → Busy w i → P w → Q (refusedBusy w i)
     -- the packet is refused, and the slot that it was for goes to Idle
-    pub dropping : (w : World) (i n : ℕ) → Break n → i ≤ 1 → isEarly (slotAt (w .endpoint) i .phase) ≡ true → P w → Q (refused (dropped w i) n)
+    pub dropping : (w : World) (i n : ℕ) → Break n → Gathering w i → P w → Q (refused (dropped w i) n)
     pub failing : (w : World) (i at : ℕ) → Joining w i at → P w → Q (refused (dropped (filled w i at) i) check-wrong)
     pub gaining : (w : World) (i at : ℕ) → Joining w i at → unit ≤ at + length message → P w
         → Q (outcome more-to-come (onSlot (filled w i at) i (withPhase (slotAt (w .endpoint) i) (Receive (grown at)))))
-    pub entering : (w : World) (i at : ℕ) → Joining w i at → smallest ≤ at + length message → P w
+    pub entering : (w : World) (i at : ℕ) → Joining w i at → smallest ≤ at + length message → checkRight (whole w i at) ≡ true → P w
         → Q (outcome command-complete (entered (filled w i at) i (grown at) (messageHeader (whole w i at))))
     pub controlling : (w : World) → Controls → P w → Q (outcome control-done (withEndpoint w (controlled (w .endpoint) header (messageHeader message) message)))
 
@@ -237,7 +260,7 @@ module _ (w₀ : World) (packet : List ℕ) (P : World → Type 0) (Q : Outcome 
   gathered-walk w i at j last more p =
       if-ind Q (H .eom)
       (λ e.
-      if-ind Q (not (checkRight (take (at + length M) (storeAt (filled w₀ packet w i at) i)))) (λ _. k .failing w i at j p) (λ _. k .entering w i at j (last e) p))
+      if-ind Q (not (checkRight (take (at + length M) (storeAt (filled w₀ packet w i at) i)))) (λ _. k .failing w i at j p) (λ right. k .entering w i at j (last e) (not-false (checkRight (whole w₀ packet w i at)) right) p))
       (λ e. k .gaining w i at j (more e) p)
 
   control-walk : (w : World) → readHeader (w₀ .endpoint .eid) unit inward packet ≡ Packet H → H .som ≡ true → byteAt M 0 ≡ message-type
@@ -271,7 +294,8 @@ module _ (w₀ : World) (packet : List ℕ) (P : World → Type 0) (Q : Outcome 
   command-walk w free som hi last more p =
       let i = messageHeader M .csi in
       let is = csi-most M in
-      if-ind Q (not (isIdle (slotAt (w .endpoint) i .phase))) (λ _. k .busying w i is p)
+      if-ind Q (not (isIdle (slotAt (w .endpoint) i .phase)))
+      (λ busy. k .busying w i (record { slot-is = is; som = som; named = refl; occupied = not-true (isIdle (slotAt (w .endpoint) i .phase)) busy }) p)
       (λ idle.
       gathered-walk w i 0
       (record {
@@ -318,15 +342,16 @@ module _ (w₀ : World) (packet : List ℕ) (P : World → Type 0) (Q : Outcome 
       gathered-walk w i (a .length)
       (record { slot-is = is; early = early; alone = free; fits = j .fits; origin = goes-on som a (held .gathers-it) (held .from-it) })
       (λ _. omega (arith, size .0)) (λ _. omega (arith, size .0)) p)
-      (λ some. k .dropping w i refusal (join-break w₀ packet som (a .sequence) (a .length) (length M) H some) is early p)
+      (λ some. k .dropping w i refusal (join-break w₀ packet som (a .sequence) (a .length) (length M) H some)
+      (record { slot-is = is; assembly-is = a; gathers-it = held .gathers-it; from-it = held .from-it }) p)
 
-  later-walk : (w : World) → H .som ≡ false → 1 ≤ length M → P w → Q (later w H M)
+  later-walk : H .som ≡ false → 1 ≤ length M → P w₀ → Q (later w₀ H M)
   unfolding later
-  later-walk w som lo p = go (holder (w .endpoint) (H .source) (H .tag)) refl
+  later-walk som lo p = go (holder (w₀ .endpoint) (H .source) (H .tag)) refl
     where
-      go : (x : Holder) → holder (w .endpoint) (H .source) (H .tag) ≡ x → Q (laterBy w H M x)
-      go Nowhere e = k .refusing w no-assembly (of-no-slot som) p
-      go (At i a) e = later-at w i a (holder-at (w .endpoint) (H .source) (H .tag) e) som lo p
+      go : (x : Holder) → holder (w₀ .endpoint) (H .source) (H .tag) ≡ x → Q (laterBy w₀ H M x)
+      go Nowhere e = k .refusing w₀ no-assembly (of-no-slot som (holder-none (w₀ .endpoint) (H .source) (H .tag) e)) p
+      go (At i a) e = later-at w₀ i a (holder-at (w₀ .endpoint) (H .source) (H .tag) e) som lo p
 
 -- A packet that comes with stores of the right length: without SOM the walk starts in the world as it is, with SOM where an assembly with its
 -- source and tag has ended.
@@ -347,4 +372,4 @@ walked w packet P Q k s p finished =
         (λ som.
         first-walk w packet P Q k (withEndpoint w (endAssembly (w .endpoint) (fields packet .source) (fields packet .tag))) read-so
         (λ i is. ended-at (w .endpoint) (fields packet .source) (fields packet .tag) i is) som (z .most) (finished som))
-        (λ som. later-walk w packet P Q k w som (z .some) (p som)))
+        (λ som. later-walk w packet P Q k som (z .some) (p som)))

@@ -1,25 +1,29 @@
 -- What a refusal leaves, for each number.
 -- Assumes nothing.
-use Prim.Native.Nat.{ℕ, zero, suc, _+_, _≤_, _<_}
+use Prim.Native.Nat.{ℕ, zero, suc, _+_, _%_, _≤_, _<_}
 use mathlib.Core.Path.{_≡_, refl, sym, ap, _∙_}
 use mathlib.Core.Bool.{Bool, true, false, not, _&&_, _||_}
 use mathlib.Core.List.{List, [], _∷_}
 use native.Mathlib.Omega.{arith}
 use lib.Dec.{eqb, ltb}
 use lib.ListN.{length}
+use lib.Seq.{getD-drop}
 use borrow.Author.Tests.{eq-eqb, ne-eqb, eqb-false, ltb-true}
 use Rattle.lent.specs.Choice.{if_then_else_}
+use Rattle.lent.specs.Bytes.{byteAt}
 use Rattle.lent.proofs.Choice.{if-ind, false-true, and-both}
 use Rattle.mctp.specs.Header.{fields}
-use Rattle.machine.specs.State.{World, Outcome, slotAt, withEndpoint}
+use Rattle.machine.specs.State.{World, Outcome, slotAt, withEndpoint, isIdle}
 use Rattle.machine.specs.Wire.{packet-room, wrongStores}
-use Rattle.machine.specs.Receive.{refused, refusedBusy, dropped, flagOf, received}
+use Rattle.machine.specs.Receive.{refused, refusedBusy, dropped, endAssembly, flagOf, received}
 use Rattle.machine.specs.Finish.{isSlot, takenRow, takenFrom, taken, isBody, isPresent, completedRow, completedIn, completed, isReceive, timedOut}
 use Rattle.machine.specs.Poll.{Polled, ready, replyFirst, polledBy, polled}
 use Rattle.machine.specs.Valid.{Valid, Sound}
 use Rattle.machine.specs.Calls.{receive, take!, read, complete, poll, timeout, reset, number, given, part-read, handed-out, takeEvent, pollEvent, step}
-use Rattle.machine.specs.History.{hasSom}
-use Rattle.machine.specs.Refusals.{FlagColumn, begun, Leaves, unread, tabled, busy, unknown, sequence, size, total, failed, RefusedPacket, WrongStores, RefusedCall, isOneOf, Named}
+use Rattle.machine.specs.History.{hasSom, sourceOf, messageTagOf, phaseAt, receivesFrom, isFor}
+use Rattle.machine.specs.Numbers.{rightSizes}
+use Rattle.machine.specs.Demands.{isIdleNow}
+use Rattle.machine.specs.Refusals.{FlagColumn, assemblyEnded, placeIn, stored, Leaves, unread, tabled, busy, unknown, broken, failed, RefusedPacket, WrongStores, RefusedCall, isOneOf, Named}
 use Rattle.machine.specs.declared.Ticket.{Ticket}
 use Rattle.machine.specs.declared.Taking.{Taking}
 use Rattle.machine.specs.declared.Taking.the-variants.{Untaken, Taken}
@@ -31,7 +35,8 @@ use Rattle.machine.specs.declared.Done.{Done}
 use Rattle.machine.specs.declared.TakeDone.{TakeDone}
 use Rattle.machine.specs.declared.Ready.{Ready}
 use Rattle.machine.specs.declared.Ready.the-variants.{Nothing, From}
-use Rattle.machine.proofs.Receiving.{Ground, in-table, of-no-slot, Break, in-sequence, in-size, in-total, Walk, walked}
+use Rattle.machine.proofs.Receiving.{receives-gathers, Origin, opens, goes-on, Joining, filled, Ground, in-table, of-no-slot, Busy, Gathering, Break, in-sequence, in-size, in-total, Walk, walked}
+use Rattle.machine.proofs.Numbers.{wrong-sizes}
 use Rattle.machine.proofs.Keeps.{sound-endpoint, sound-of, end-valid}
 
 pub flag-column : FlagColumn
@@ -40,58 +45,110 @@ flag-column = refl
 
 -- ---- receiving
 
+pub idle-now : (p : Phase) → isIdleNow p ≡ isIdle p
+idle-now Idle = refl
+idle-now (Receive a) = refl
+idle-now (Process r) = refl
+idle-now (Answered r) = refl
+idle-now (Transmit r) = refl
+
 module _ (w₀ : World) (p : List ℕ) (s₀ : Sound w₀) where
   -- on the way nothing changes but that an assembly ends
   record At (w : World) : Type 0 where
-    is : w ≡ begun w₀ p
+    is : w ≡ assemblyEnded w₀ p
     sound : Sound w
+
+  ended-is : hasSom p ≡ true → withEndpoint w₀ (endAssembly (w₀ .endpoint) (fields p .source) (fields p .tag)) ≡ assemblyEnded w₀ p
+  unfolding endAssembly
+  ended-is som =
+      rw (
+        som,
+        receives-gathers (sourceOf p) (messageTagOf p) (phaseAt w₀ 0),
+        receives-gathers (sourceOf p) (messageTagOf p) (phaseAt w₀ 1),
+      )
+      refl
 
   abbrev Left : Outcome → Type 0
   Left o = 3 ≤ o .answer → Leaves w₀ p (o .answer) (o .world)
 
-  without : hasSom p ≡ false → begun w₀ p ≡ w₀
+  without : hasSom p ≡ false → assemblyEnded w₀ p ≡ w₀
   without som = rw som refl
 
   refuses : (w : World) (n : ℕ) → Ground w₀ p n → At w → Left (refused w n)
   unfolding refused
   refuses w n (in-table som lo hi) a _ = rw (a .is) (tabled som lo hi)
-  refuses w _ (of-no-slot som) a _ = rw (a .is ∙ without som) (unknown som)
+  refuses w _ (of-no-slot som none) a _ =
+      rw (a .is ∙ without som) (unknown som (λ i is. receives-gathers (sourceOf p) (messageTagOf p) (phaseAt w₀ i) ∙ none i is))
 
-  drops : (w : World) (i n : ℕ) → Break w₀ p n → i ≤ 1 → At w → Left (refused (dropped w i) n)
+  busies : (w : World) (i : ℕ) → Busy w₀ p w i → At w → Left (refusedBusy w i)
+  unfolding refusedBusy
+  busies w i b a _ =
+      let named : i ≡ byteAt p 5 % 2 = b .named ∙ rw (getD-drop 4 p 1 0) refl in
+      rw (a .is) (busy i (b .som) named (idle-now (phaseAt (assemblyEnded w₀ p) i) ∙ rw (a .is) at (b .occupied)))
+
+  drops : (w : World) (i n : ℕ) → Break w₀ p n → Gathering w₀ p w i → At w → Left (refused (dropped w i) n)
   unfolding refused
-  drops w i _ (in-sequence som) is a _ = rw (a .is ∙ without som) (sequence som i is)
-  drops w i _ (in-size som) is a _ = rw (a .is ∙ without som) (size som i is)
-  drops w i _ (in-total som) is a _ = rw (a .is ∙ without som) (total som i is)
+  drops w i n k g a _ = go k
+    where
+      -- its slot is in Receive with this source and tag
+      here : hasSom p ≡ false → receivesFrom (sourceOf p) (messageTagOf p) (phaseAt w₀ i) ≡ true
+      here som =
+          let q : phaseAt w₀ i ≡ Receive (g .assembly-is) = rw (sym (without som), sym (a .is)) (g .gathers-it) in
+          rw q (g .from-it)
+
+      go : {n : ℕ} → Break w₀ p n → Leaves w₀ p n (refused (dropped w i) n .world)
+      go (in-sequence som) = unfold refused in (rw (a .is ∙ without som) (broken i som (here som) (g .slot-is) refl))
+      go (in-size som) = unfold refused in (rw (a .is ∙ without som) (broken i som (here som) (g .slot-is) refl))
+      go (in-total som) = unfold refused in (rw (a .is ∙ without som) (broken i som (here som) (g .slot-is) refl))
+
+  -- a command's packet goes to its slot, at its place
+  its-slot : (w : World) (i : ℕ) {n : ℕ} → At w → Origin w₀ p w i n → (isFor i p w₀ ≡ true) × (n ≡ placeIn p (phaseAt w₀ i))
+  its-slot w i a (opens som e) = (rw (som, e, getD-drop 4 p 1 0) (eq-eqb (byteAt p 5 % 2) (byteAt p 5 % 2) refl), rw som refl)
+  its-slot w i a (goes-on som x ph fr) =
+      let q : phaseAt w₀ i ≡ Receive x = rw (sym (without som), sym (a .is)) ph in
+      (rw (som, q) fr, rw (som, q) refl)
+
+  fails : (w : World) (i at : ℕ) → Joining w₀ p w i at → At w → Left (refused (dropped (filled w₀ p w i at) i) 19)
+  unfolding refused
+  fails w i at j a _ =
+      let k = its-slot w i a (j .origin) in
+      left (filled w₀ p w i at) (rw (a .is, k .1) refl) (k .0)
+    where
+      left : (v : World) → v ≡ stored w₀ i p → isFor i p w₀ ≡ true → Leaves w₀ p 19 (refused (dropped v i) 19 .world)
+      left v e mine = unfold refused in (rw e (failed i mine (j .slot-is)))
 
   the-walk : Walk w₀ p At Left
-  unfolding refused refusedBusy
+  unfolding refused
   the-walk =
       record {
         sound = λ w a. a .sound;
         unread = λ n lo hi _. unfold refused in (unread lo hi);
         refusing = refuses;
-        busying = λ w i is a _. unfold refusedBusy in (rw (a .is) (busy i is));
-        dropping = λ w i n k is _ a. drops w i n k is a;
-        failing = λ w i at j a _. unfold refused in (rw (a .is) (failed i at (j .slot-is)));
+        busying = busies;
+        dropping = drops;
+        failing = fails;
         gaining = λ w i at j _ a h. absurd (omega arith);
-        entering = λ w i at j _ a h. absurd (omega arith);
+        entering = λ w i at j _ _ a h. absurd (omega arith);
         controlling = λ w c a h. absurd (omega arith);
       }
 
 pub refused-packet : RefusedPacket
 refused-packet w p s h =
     walked w p (At w p s) (Left w p s) (the-walk w p s) s (λ som. record { is = rw som refl; sound = s })
-    (λ som. record { is = rw som refl; sound = sound-endpoint s (end-valid (fields p .source) (fields p .tag) (s .state)) }) h
+    (λ som. record { is = ended-is w p s som; sound = sound-endpoint s (end-valid (fields p .source) (fields p .tag) (s .state)) }) h
 
 -- ---- 40
 
+wrong-so : (w : World) → rightSizes w ≡ false → wrongStores w ≡ true
+wrong-so w e = wrong-sizes w ∙ rw e refl
+
 pub wrong-stores-unchanged : WrongStores
 unfolding step received completed polled
-wrong-stores-unchanged (receive p) w l e = rw e (refl, refl)
+wrong-stores-unchanged (receive p) w l e = rw (wrong-so w e) (refl, refl)
 wrong-stores-unchanged (take! i) w l e = false-true l
 wrong-stores-unchanged (read i) w l e = false-true l
-wrong-stores-unchanged (complete i t body) w l e = rw e (refl, refl)
-wrong-stores-unchanged (poll buffer) w l e = rw e (refl, refl)
+wrong-stores-unchanged (complete i t body) w l e = rw (wrong-so w e) (refl, refl)
+wrong-stores-unchanged (poll buffer) w l e = rw (wrong-so w e) (refl, refl)
 wrong-stores-unchanged (timeout i) w l e = false-true l
 wrong-stores-unchanged reset w l e = false-true l
 
@@ -213,7 +270,7 @@ module _ (w₀ : World) (p : List ℕ) (s₀ : Sound w₀) where
 
   ground-named : (n : ℕ) → Ground w₀ p n → In receiving n
   ground-named n (in-table _ lo hi) = refusal-named n (omega arith) (omega arith)
-  ground-named _ (of-no-slot _) = refl
+  ground-named _ (of-no-slot _ _) = refl
 
   break-named : (n : ℕ) → Break w₀ p n → In receiving n
   break-named _ (in-sequence _) = refl
@@ -226,11 +283,11 @@ module _ (w₀ : World) (p : List ℕ) (s₀ : Sound w₀) where
         sound = λ w s. s;
         unread = λ n lo hi. unfold refused in (refusal-named n (omega arith) (omega arith));
         refusing = λ w n k _. unfold refused in (ground-named n k);
-        busying = λ w i is _. unfold refusedBusy in refl;
-        dropping = λ w i n k is _ _. unfold refused in (break-named n k);
+        busying = λ w i b _. unfold refusedBusy in refl;
+        dropping = λ w i n k _ _. unfold refused in (break-named n k);
         failing = λ w i at j _. unfold refused in refl;
         gaining = λ w i at j _ _. refl;
-        entering = λ w i at j _ _. refl;
+        entering = λ w i at j _ _ _. refl;
         controlling = λ w c _. refl;
       }
 

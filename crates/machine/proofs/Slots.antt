@@ -9,7 +9,7 @@ use lib.Dec.{eqb}
 use lib.ListN.{getD}
 use borrow.Author.Tests.{eqb-true, eq-eqb}
 use Rattle.lent.specs.Choice.{if_then_else_}
-use Rattle.lent.proofs.Choice.{if-ind, and-both}
+use Rattle.lent.proofs.Choice.{if-ind, if-second, and-both}
 use Rattle.machine.specs.State.{fresh, ticket, idled, slotAt, isIdle}
 use Rattle.machine.specs.Receive.{isFrom, gathers, holder, holderIn, endAssembly, endedSlot}
 use Rattle.machine.specs.Poll.{otherSlot}
@@ -140,6 +140,24 @@ holder-at e source tag {i} {a} h = outer (holder-in source tag 0 (slotAt e 0 .ph
     outer : Where source tag 0 (slotAt e 0 .phase) (holderIn source tag 1 (slotAt e 1 .phase) Nowhere) i a → Holds e source tag i a
     outer (here k p f) = rw (sym k) (record { slot-is = omega arith; gathers-it = p; from-it = f })
     outer (there n) = inner (holder-in source tag 1 (slotAt e 1 .phase) Nowhere n)
+
+-- where `holderIn` found none
+none-in : (source tag k : ℕ) (p : Phase) (other : Holder) → holderIn source tag k p other ≡ Nowhere → (gathers source tag p ≡ false) × (other ≡ Nowhere)
+none-in source tag k Idle other e = (refl, e)
+none-in source tag k (Receive a) other e = if-second (isFrom source tag a) (λ n. absurd (omega (arith, found n))) e
+  where
+    found : At k a ≡ Nowhere → _≡_ {A = ℕ} 0 1
+    found n = cc
+none-in source tag k (Process r) other e = (refl, e)
+none-in source tag k (Answered r) other e = (refl, e)
+none-in source tag k (Transmit r) other e = (refl, e)
+
+pub holder-none : (e : Endpoint) (source tag : ℕ) → holder e source tag ≡ Nowhere → (i : ℕ) → i ≤ 1 → gathers source tag (slotAt e i .phase) ≡ false
+unfolding holder
+holder-none e source tag h zero is = none-in source tag 0 (slotAt e 0 .phase) (holderIn source tag 1 (slotAt e 1 .phase) Nowhere) h .0
+holder-none e source tag h (suc zero) is =
+    none-in source tag 1 (slotAt e 1 .phase) Nowhere (none-in source tag 0 (slotAt e 0 .phase) (holderIn source tag 1 (slotAt e 1 .phase) Nowhere) h .1) .0
+holder-none e source tag h (suc (suc n)) is = absurd (omega arith)
 
 -- once an assembly has ended, neither slot gathers under its source and tag
 ended-one : (source tag : ℕ) (s : Slot) → gathers source tag (endedSlot source tag s .phase) ≡ false

@@ -6,8 +6,9 @@ use mathlib.Core.Path.{_≡_, refl, sym, ap, _∙_}
 use mathlib.Core.Bool.{Bool, true, false, not, _&&_, _||_}
 use mathlib.Core.List.{List, [], _∷_, _++_}
 use native.Mathlib.Omega.{arith}
-use lib.Dec.{leb}
+use lib.Dec.{eqb, leb}
 use lib.ListN.{length, take}
+use lib.Seq.{take-all}
 use borrow.Author.Tests.{eq-eqb, eqb-true, not-true}
 use Rattle.lent.specs.Choice.{if_then_else_}
 use Rattle.lent.proofs.Choice.{if-ind, false-true, and-both}
@@ -18,7 +19,7 @@ use Rattle.machine.specs.Poll.{afterPacket, controlPacket, commandPacket
 use Rattle.machine.specs.Valid.{PhaseFacts, Sound}
 use Rattle.machine.specs.Calls.{Call, take!, read, complete, poll, Event, number, given, part-read, handed-out, Stepped, takeEvent, step}
 use Rattle.machine.specs.History.{Log, History, phaseAt, pausedAt, isTransmit, isPacketOf, moved, responseFor, commanded, transmitted, logAfter, counts, next, run, start}
-use Rattle.machine.specs.Demands.{TicketCount, isProcess, TicketRule, AnswersOwn, routeOf, AnswerBelongs, PausesHold, isAnswered, isIdleNow, FlagsFit}
+use Rattle.machine.specs.Demands.{TicketCount, isProcess, TicketRule, AnswersOwn, routeOf, replyPacket, AnswerBelongs, PausesHold, isAnswered, isIdleNow, FlagsFit}
 use Rattle.machine.specs.declared.Ticket.{Ticket}
 use Rattle.machine.specs.declared.Taking.{Taking}
 use Rattle.machine.specs.declared.Taking.the-variants.{Untaken, Taken}
@@ -27,12 +28,13 @@ use Rattle.machine.specs.declared.Response.{Response}
 use Rattle.machine.specs.declared.Phase.{Phase}
 use Rattle.machine.specs.declared.Phase.the-variants.{Idle, Receive, Process, Answered, Transmit}
 use Rattle.machine.specs.declared.Slot.{Slot}
+use Rattle.machine.specs.declared.Endpoint.{Endpoint}
 use Rattle.machine.specs.declared.TakeDone.{TakeDone}
 use Rattle.machine.proofs.Slots.{facts-at}
 use Rattle.machine.proofs.Receiving.{right-stores}
 use Rattle.machine.proofs.Keeps.{slot-most, Chosen, chosen-at}
 use Rattle.machine.proofs.Places.{Which, this, that, which, slot-this, slot-that}
-use Rattle.machine.proofs.Fits.{Asked, Going, Fit, Entry, entered, stayed}
+use Rattle.machine.proofs.Fits.{Asked, Going, Fit, Entry, entered, stayed, There, goes, some-response}
 use Rattle.machine.proofs.Polling.{PollCase, still, replies, sends, poll-case, moved-same, onward, onward-moves}
 use Rattle.machine.proofs.Histories.{Good, kept-by, good-next, good-run, good-every}
 
@@ -52,7 +54,7 @@ module _ (i : ℕ) (is : i ≤ 1) (first : ℕ) (request : List ℕ) where
     where
       by : Entry (phaseAt (h .world) i) (phaseAt (step c (h .world) .world) i) (h .log i) (logAfter i c (h .world) (step c (h .world)) (h .log i))
           → Since (unfold next in next c h)
-      by (entered e) = unfold next in (record { grown = omega (arith, e, s .grown); kept = λ k _. absurd (omega (arith, e, k, s .grown)) })
+      by (entered _ _ e) = unfold next in (record { grown = omega (arith, e, s .grown); kept = λ k _. absurd (omega (arith, e, k, s .grown)) })
       by (stayed e f) =
           unfold next in
           (record {
@@ -71,6 +73,8 @@ pub record Gave (w : World) (i : ℕ) (t : Ticket) : Type 0 where
   pub slot-is : i ≤ 1
   pub ticket-is : t ≡ slotAt (w .endpoint) i .ticket
   pub request : Request
+  pub in-process : phaseAt w i ≡ Process request
+  pub untaken : request .taking ≡ Untaken
   pub then-phase : phaseAt (step (take! i) w .world) i ≡ Process (takenRequest request)
 
 number-given : {A : Type 0} {n : ℕ} {t : Ticket} → number n ≡ given t → A
@@ -82,39 +86,75 @@ number-given {n = n} {t = t} e = absurd (omega (arith, zero-one e))
 same-ticket : {t u : Ticket} → given u ≡ given t → t ≡ u
 same-ticket e = cc
 
+pub record GivesFrom (w : World) (i : ℕ) (t : Ticket) (d : TakeDone) : Type 0 where
+  pub slot-is : i ≤ 1
+  pub ticket-is : t ≡ slotAt (w .endpoint) i .ticket
+  pub request : Request
+  pub in-process : phaseAt w i ≡ Process request
+  pub untaken : request .taking ≡ Untaken
+  pub then-phase : slotAt (d .endpoint) i .phase ≡ Process (takenRequest request)
+
 abbrev Gives : World → ℕ → Ticket → TakeDone → Type 0
-Gives w i t d = takeEvent (d .answer) ≡ given t → (i ≤ 1) × (t ≡ slotAt (w .endpoint) i .ticket) × ((r : Request) × (slotAt (d .endpoint) i .phase ≡ Process (takenRequest r)))
+Gives w i t d = takeEvent (d .answer) ≡ given t → GivesFrom w i t d
 
 take-gives : (w : World) → Sound w → (i : ℕ) (t : Ticket) → Gives w i t (taken (w .endpoint) i)
 unfolding taken
-take-gives w s i t = if-ind (Gives w i t) (not (isSlot i)) (λ _ e. number-given e) (λ h. from (slot-most i h) (phaseAt w i))
+take-gives w s i t = if-ind (Gives w i t) (not (isSlot i)) (λ _ e. number-given e) (λ h. from (slot-most i h) (phaseAt w i) refl)
   where
-    row : i ≤ 1 → (r : Request) (u : Taking) → Gives w i t (takenRow (w .endpoint) i r u)
-    row is r Untaken e = (is, same-ticket e, (r, ap (λ (x : Slot). x .phase) (slot-this i is (s .state) _)))
-    row is r Taken e = number-given e
+    row : i ≤ 1 → (r : Request) (u : Taking) → phaseAt w i ≡ Process r → r .taking ≡ u → Gives w i t (takenRow (w .endpoint) i r u)
+    row is r Untaken p u e =
+        record {
+          slot-is = is;
+          ticket-is = same-ticket e;
+          request = r;
+          in-process = p;
+          untaken = u;
+          then-phase = ap (λ (x : Slot). x .phase) (slot-this i is (s .state) _);
+        }
+    row is r Taken p u e = number-given e
 
-    from : i ≤ 1 → (p : Phase) → Gives w i t (takenFrom (w .endpoint) i p)
-    from is Idle e = number-given e
-    from is (Receive a) e = number-given e
-    from is (Process r) e = row is r (r .taking) e
-    from is (Answered r) e = number-given e
-    from is (Transmit r) e = number-given e
+    from : i ≤ 1 → (p : Phase) → phaseAt w i ≡ p → Gives w i t (takenFrom (w .endpoint) i p)
+    from is Idle p e = number-given e
+    from is (Receive a) p e = number-given e
+    from is (Process r) p e = row is r (r .taking) p refl e
+    from is (Answered r) p e = number-given e
+    from is (Transmit r) p e = number-given e
 
-gave : (w : World) → Sound w → (i : ℕ) (t : Ticket) → step (take! i) w .event ≡ given t → Gave w i t
+pub gave : (w : World) → Sound w → (i : ℕ) (t : Ticket) → step (take! i) w .event ≡ given t → Gave w i t
 unfolding step
 gave w s i t e =
     let k = take-gives w s i t e in
-    record { slot-is = k .0; ticket-is = k .1; request = k .2 .0; then-phase = unfold step in (k .2 .1) }
+    record {
+      slot-is = k .slot-is;
+      ticket-is = k .ticket-is;
+      request = k .request;
+      in-process = k .in-process;
+      untaken = k .untaken;
+      then-phase = unfold step in (k .then-phase);
+    }
 
--- taking adds no entry
-take-entries : (h : History) (i : ℕ) → next (take! i) h .log i .entries ≡ h .log i .entries
+-- taking adds no entry, and changes no request
+pub record TakeKeeps (l m : Log) : Type 0 where
+  pub entries-are : m .entries ≡ l .entries
+  pub request-is : m .request ≡ l .request
+
+take-keeps : (h : History) (i : ℕ) → TakeKeeps (h .log i) (next (take! i) h .log i)
 unfolding next
-take-entries h i = go (phaseAt (h .world) i) (phaseAt (step (take! i) (h .world) .world) i) (step (take! i) (h .world) .event)
+take-keeps h i = sent (phaseAt (h .world) i) (phaseAt (step (take! i) (h .world) .world) i) (step (take! i) (h .world) .event) _ (by (step (take! i) (h .world) .event))
   where
-    go : (p q : Phase) (v : Event) → transmitted p q v (h .log i) .entries ≡ h .log i .entries
-    go p q v =
-        if-ind (λ (m : Log). m .entries ≡ h .log i .entries) (not (isTransmit p) && isTransmit q) (λ _. refl)
-        (λ _. if-ind (λ (m : Log). m .entries ≡ h .log i .entries) (isPacketOf p q v) (λ _. refl) (λ _. refl))
+    by : (v : Event) → TakeKeeps (h .log i) (commanded i (take! i) (h .world) v (h .log i))
+    by (number n) = record { entries-are = refl; request-is = refl }
+    by (given t) = if-ind (TakeKeeps (h .log i)) (eqb i i) (λ _. record { entries-are = refl; request-is = refl }) (λ _. record { entries-are = refl; request-is = refl })
+    by (part-read s) = record { entries-are = refl; request-is = refl }
+    by (handed-out s) = record { entries-are = refl; request-is = refl }
+
+    sent : (p q : Phase) (v : Event) (m : Log) → TakeKeeps (h .log i) m → TakeKeeps (h .log i) (transmitted p q v m)
+    sent p q v m k =
+        if-ind (TakeKeeps (h .log i)) (not (isTransmit p) && isTransmit q) (λ _. record { entries-are = k .entries-are; request-is = k .request-is })
+        (λ _. if-ind (TakeKeeps (h .log i)) (isPacketOf p q v) (λ _. record { entries-are = k .entries-are; request-is = k .request-is }) (λ _. k))
+
+take-entries : (h : History) (i : ℕ) → next (take! i) h .log i .entries ≡ h .log i .entries
+take-entries h i = take-keeps h i .entries-are
 
 -- ---- completing with an older ticket
 
@@ -124,13 +164,13 @@ older a b lo hi e = omega arith
 not-older : (a b : ℕ) → a ≤ b → b < a + 2 ^ 32 → a % 2 ^ 32 ≡ b % 2 ^ 32 → b ≡ a
 not-older a b lo hi e = omega arith
 
-slot-yes : (i : ℕ) → i ≤ 1 → isSlot i ≡ true
+pub slot-yes : (i : ℕ) → i ≤ 1 → isSlot i ≡ true
 slot-yes zero h = refl
 slot-yes (suc zero) h = refl
 slot-yes (suc (suc n)) h = absurd (omega arith)
 
 -- a ticket that is not the slot's present one
-other-refused : (w : World) → Sound w → (i : ℕ) → i ≤ 1 → (t : Ticket) (body : List ℕ) → (t .0 ≡ slotAt (w .endpoint) i .ticket .0 → ⊥)
+pub other-refused : (w : World) → Sound w → (i : ℕ) → i ≤ 1 → (t : Ticket) (body : List ℕ) → (t .0 ≡ slotAt (w .endpoint) i .ticket .0 → ⊥)
     → step (complete i t body) w .event ≡ number (if isProcess (phaseAt w i) then 32 else 31)
 unfolding step completed
 other-refused w s i is t body n = rw (right-stores w s, slot-yes i is) (into (phaseAt w i))
@@ -160,7 +200,7 @@ ticket-rule eid store0 store1 a b xs i t e ys body lo hi =
 
 -- ---- a completion that is accepted
 
-accepted : (w : World) → Sound w → (i : ℕ) → i ≤ 1 → (t : Ticket) (body : List ℕ) → step (complete i t body) w .event ≡ number 0
+pub accepted : (w : World) → Sound w → (i : ℕ) → i ≤ 1 → (t : Ticket) (body : List ℕ) → step (complete i t body) w .event ≡ number 0
     → (isProcess (phaseAt w i) ≡ true) × (t .0 ≡ slotAt (w .endpoint) i .ticket .0)
 unfolding step completed
 accepted w s i is t body e = into (phaseAt w i) (rw (right-stores w s, slot-yes i is) at e)
@@ -183,13 +223,13 @@ accepted w s i is t body e = into (phaseAt w i) (rw (right-stores w s, slot-yes 
     into (Answered r) q = refused 30 q
     into (Transmit r) q = refused 30 q
 
-transmitted-response : (p q : Phase) (v : Event) (l : Log) → transmitted p q v l .response ≡ l .response
+pub transmitted-response : (p q : Phase) (v : Event) (l : Log) → transmitted p q v l .response ≡ l .response
 transmitted-response p q v l =
     if-ind (λ (m : Log). m .response ≡ l .response) (not (isTransmit p) && isTransmit q) (λ _. refl)
     (λ _. if-ind (λ (m : Log). m .response ≡ l .response) (isPacketOf p q v) (λ _. refl) (λ _. refl))
 
 -- the response that it fixes
-completes : (h : History) (i : ℕ) (t : Ticket) (body : List ℕ) → step (complete i t body) (h .world) .event ≡ number 0
+pub completes : (h : History) (i : ℕ) (t : Ticket) (body : List ℕ) → step (complete i t body) (h .world) .event ≡ number 0
     → next (complete i t body) h .log i .response ≡ responseFor i (h .log i .request) body
 unfolding next
 completes h i t body e =
@@ -243,12 +283,29 @@ number-out {n = n} {s = s} e = absurd (omega (arith, zero-one e))
 same-bytes : {s u : List ℕ} → handed-out u ≡ handed-out s → s ≡ u
 same-bytes e = cc
 
+-- the control reply in literal bytes
+pub reply-packet : (e : Endpoint) → length (e .reply) ≡ 12 → controlPacket e ≡ replyPacket e
+unfolding packet
+reply-packet e n = rw (n, take-all 64 (e .reply) (omega arith)) refl
+
+-- a slot that sends a packet has a response
+pub moved-full : (h : History) → Good h → (i : ℕ) → i ≤ 1 → (q : Phase) → moved (phaseAt (h .world) i) q ≡ true → h .log i .response ≡ [] → ⊥
+moved-full h g i is q m =
+    some-response (slotAt (h .world .endpoint) i) (storeAt (h .world) i) (h .log i) (g .fits i is) (facts-at i is (g .sound .state)) (by (phaseAt (h .world) i) m)
+  where
+    by : (p : Phase) → moved p q ≡ true → There p
+    by Idle n = false-true n
+    by (Receive a) n = false-true n
+    by (Process r) n = false-true n
+    by (Answered r) n = false-true n
+    by (Transmit r) n = goes r refl
+
 -- what a poll hands out, from the world before and what it leaves
 pub record BelongsBy (h : History) (s : Stepped) (bytes : List ℕ) : Type 0 where
   pub of-slot : (i : ℕ) → i ≤ 1 → moved (phaseAt (h .world) i) (phaseAt (s .world) i) ≡ true
       → bytes ≡ packet 64 (routeOf h i) (h .log i .response) (h .log i .packets)
   pub of-none : ((i : ℕ) → i ≤ 1 → moved (phaseAt (h .world) i) (phaseAt (s .world) i) ≡ false)
-      → (h .world .endpoint .«reply_waits» ≡ true) × (bytes ≡ controlPacket (h .world .endpoint))
+      → (h .world .endpoint .«reply_waits» ≡ true) × (bytes ≡ replyPacket (h .world .endpoint))
 
 module _ (h : History) (g : Good h) (buffer : List ℕ) where
   -- the packet of the slot that is chosen
@@ -263,7 +320,7 @@ module _ (h : History) (g : Good h) (buffer : List ℕ) where
   belongs-by bytes (replies waits _) e =
       record {
         of-slot = λ i is m. false-true (sym (moved-same (phaseAt (h .world) i)) ∙ m);
-        of-none = λ _. (waits, same-bytes e);
+        of-none = λ _. (waits, same-bytes e ∙ reply-packet (h .world .endpoint) (g .sound .state .reply-twelve));
       }
   belongs-by bytes (sends k q c counted) e =
       record {

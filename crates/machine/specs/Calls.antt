@@ -4,17 +4,15 @@
 use Prim.Native.Nat.{ℕ}
 use mathlib.Core.List.{List, [], _∷_}
 use lib.ListN.{take}
-use Rattle.machine.specs.State.{World, Outcome, world, withEndpoint}
+use Rattle.machine.specs.State.{World, Outcome, ticket, world, withEndpoint}
 use Rattle.machine.specs.Receive.{received}
-use Rattle.machine.specs.Finish.{taken, part, completed, timedOut, wasReset, wasSetUp}
-use Rattle.machine.specs.Poll.{Polled, polled}
+use Rattle.machine.specs.Finish.{taken, takeSays, part, completed, timedOut, wasReset, wasSetUp}
+use Rattle.machine.specs.Poll.{Polled, pollSays, polled}
 use Rattle.machine.specs.declared.Ticket.{Ticket}
 use Rattle.machine.specs.declared.Done.{Done}
 use Rattle.machine.specs.declared.TakeAnswer.{TakeAnswer}
-use Rattle.machine.specs.declared.TakeAnswer.the-variants.{Refused as TakeRefused, Given}
 use Rattle.machine.specs.declared.TakeDone.{TakeDone}
 use Rattle.machine.specs.declared.PollAnswer.{PollAnswer}
-use Rattle.machine.specs.declared.PollAnswer.the-variants.{Refused as PollRefused, Nothing, Packet}
 
 pub data Call : Type 0 where
   -- a packet
@@ -52,17 +50,19 @@ byOutcome o = stepped (number (o .answer)) (o .world)
 abbrev pub byDone : World → Done → Stepped
 byDone w d = stepped (number (d .answer)) (withEndpoint w (d .endpoint))
 
+-- a number alone, or with the value behind it
+abbrev pub numberOr : (ℕ → Event) → ℕ → List ℕ → Event
+numberOr f n [] = number n
+numberOr f n (value ∷ values) = f value
+
 abbrev pub takeEvent : TakeAnswer → Event
-takeEvent (TakeRefused n) = number n
-takeEvent (Given t) = given t
+takeEvent a = numberOr (λ t. given (ticket t)) (takeSays a .0) (takeSays a .1)
 
 abbrev pub byTake : World → TakeDone → Stepped
 byTake w d = stepped (takeEvent (d .answer)) (withEndpoint w (d .endpoint))
 
 abbrev pub pollEvent : List ℕ → PollAnswer → Event
-pollEvent buffer (PollRefused n) = number n
-pollEvent buffer Nothing = number 0
-pollEvent buffer (Packet n) = handed-out (take n buffer)
+pollEvent buffer a = numberOr (λ n. handed-out (take n buffer)) (pollSays a .0) (pollSays a .1)
 
 abbrev pub byPoll : World → Polled → Stepped
 byPoll w p = stepped (pollEvent (p .buffer) (p .answer)) (withEndpoint w (p .endpoint))

@@ -1,22 +1,24 @@
--- Demands 2 and 3 as statements about lists of calls. Their proofs: `demand-3` (proofs/Delivery), `ticket-count`, `ticket-rule`,
--- `answers-own`, `answer-belongs` (proofs/Tickets).
+-- Demands 2 and 3 as statements about lists of calls. Their proofs: `demand-3` (proofs/Delivery), `answer-arrives`, `error-arrives`
+-- (proofs/Arrives), `ticket-count`, `ticket-rule`, `answers-own`, `answer-belongs`, `pauses-hold`, `flags-fit` (proofs/Tickets),
+-- `abort-idles` (proofs/Replies), `always-sound` (proofs/Histories), `eid-kept` (proofs/Identity).
 -- Assumes nothing.
-use Prim.Native.Nat.{ℕ, _+_, _-_, _*_, _/_, _%_, _^_, _≤_, _<_}
+use Prim.Native.Nat.{ℕ, _+_, _*_, _%_, _^_, _≤_, _<_}
 use mathlib.Core.Path.{_≡_}
-use mathlib.Core.Bool.{Bool, true, false, _&&_, _||_}
-use mathlib.Core.List.{List, [], _∷_, _++_}
+use mathlib.Core.Bool.{Bool, true, false, _&&_}
+use mathlib.Core.List.{List, [], _∷_}
+use lib.Dec.{leb}
 use lib.ListN.{length}
 use Rattle.lent.specs.Choice.{if_then_else_}
 use Rattle.mctp.specs.Cut.{packet}
 use Rattle.mctp.specs.declared.Route.{Route}
 use Rattle.machine.specs.State.{slotAt}
-use Rattle.machine.specs.Wire.{store-size}
-use Rattle.machine.specs.Poll.{controlPacket}
-use Rattle.machine.specs.Valid.{phased}
-use Rattle.machine.specs.Calls.{Call, take!, read, complete, poll, number, given, part-read, handed-out, step}
-use Rattle.machine.specs.History.{History, phaseAt, pausedAt, isTransmit, responseFor, isPacketOf, next, run, start, cuts, packetsLeft, lastPacketOut}
+use Rattle.machine.specs.Valid.{phased, Sound}
+use Rattle.machine.specs.Calls.{Call, receive, take!, read, complete, poll, number, given, part-read, handed-out, step}
+use Rattle.machine.specs.History.{History, phaseAt, pausedAt, isTransmit, isFor, requestWith, responseFor, fixedAtEntry, isPacketOf, next, run, start, cuts, packetsLeft, lastPacketOut}
 use Rattle.machine.specs.declared.Ticket.{Ticket}
 use Rattle.machine.specs.declared.Phase.{Phase}
+use Rattle.machine.specs.declared.Phase.the-variants.{Idle}
+use Rattle.machine.specs.declared.Endpoint.{Endpoint}
 
 -- ---- what happens first to the response that slot i is sending
 
@@ -36,11 +38,11 @@ fate i (c ∷ cs) h =
     else if lastPacketOut i c h then delivered (next c h)
     else fate i cs (next c h)
 
--- the promise, where the count of polls may be at most `most`
-abbrev pub Within : ℕ → ℕ → Fate → Type 0
-Within most i cut = Unit {0}
-Within most i (delivered h) = (h .counted ≤ most) × (h .log i .payloads ≡ h .log i .response)
-Within most i (open! h) = h .counted < most
+-- the promise: this response goes out whole, with at most `most` polls counted
+abbrev pub Within : ℕ → ℕ → List ℕ → Fate → Type 0
+Within most i response cut = Unit {0}
+Within most i response (delivered h) = (h .counted ≤ most) × (h .log i .payloads ≡ response)
+Within most i response (open! h) = h .counted < most
 
 -- the counted polls that are enough for a slot with k packets left
 abbrev pub pollsFor : ℕ → ℕ
@@ -51,26 +53,44 @@ pollsFor k = 2 * (66 + k)
 -- packet is handed out by the time 2 x (66 + k) more polls were counted, and then its payloads joined are exactly the response for its ticket.
 abbrev pub Demand3 : Type 0
 Demand3 =
-    (eid : ℕ) (store0 store1 : List ℕ) → length store0 ≡ store-size → length store1 ≡ store-size → (xs ys : List Call) (i : ℕ) → i ≤ 1
+    (eid : ℕ) (store0 store1 : List ℕ) → length store0 ≡ 4224 → length store1 ≡ 4224 → (xs ys : List Call) (i : ℕ) → i ≤ 1
     → isTransmit (phaseAt (run xs (start eid store0 store1) .world) i) ≡ true
     → (1 ≤ packetsLeft i (run xs (start eid store0 store1)))
     × (packetsLeft i (run xs (start eid store0 store1)) ≤ 66)
     × Within (run xs (start eid store0 store1) .counted + pollsFor (packetsLeft i (run xs (start eid store0 store1)))) i
-    (fate i ys (run xs (start eid store0 store1)))
+    (run xs (start eid store0 store1) .log i .response) (fate i ys (run xs (start eid store0 store1)))
 
 -- what people quote: 264 polls at most, whatever is left
 abbrev pub AtMost264 : Type 0
 AtMost264 =
-    (eid : ℕ) (store0 store1 : List ℕ) → length store0 ≡ store-size → length store1 ≡ store-size → (xs ys : List Call) (i : ℕ) → i ≤ 1
+    (eid : ℕ) (store0 store1 : List ℕ) → length store0 ≡ 4224 → length store1 ≡ 4224 → (xs ys : List Call) (i : ℕ) → i ≤ 1
     → isTransmit (phaseAt (run xs (start eid store0 store1) .world) i) ≡ true
-    → Within (run xs (start eid store0 store1) .counted + 264) i (fate i ys (run xs (start eid store0 store1)))
+    → Within (run xs (start eid store0 store1) .counted + 264) i (run xs (start eid store0 store1) .log i .response) (fate i ys (run xs (start eid store0 store1)))
+
+-- A COMPLETION THAT IS ACCEPTED IS NOT LOST. Its response, with that very body, goes out whole with at most 264 more polls counted, also where
+-- it first waits under its slot's pause flag (no poll is counted then), unless the slot is aborted or the endpoint reset.
+abbrev pub AnswerArrives : Type 0
+AnswerArrives =
+    (eid : ℕ) (store0 store1 : List ℕ) → length store0 ≡ 4224 → length store1 ≡ 4224 → (xs ys : List Call) (i : ℕ) → i ≤ 1 → (t : Ticket) (body : List ℕ)
+    → step (complete i t body) (run xs (start eid store0 store1) .world) .event ≡ number 0
+    → Within (run xs (start eid store0 store1) .counted + 264) i (responseFor i (run xs (start eid store0 store1) .log i .request) body)
+    (fate i ys (next (complete i t body) (run xs (start eid store0 store1))))
+
+-- and so does the error response of a command that failed a test at its entry into Process
+abbrev pub ErrorArrives : Type 0
+ErrorArrives =
+    (eid : ℕ) (store0 store1 : List ℕ) → length store0 ≡ 4224 → length store1 ≡ 4224 → (xs ys : List Call) (i : ℕ) → i ≤ 1 → (p : List ℕ)
+    → step (receive p) (run xs (start eid store0 store1) .world) .event ≡ number 1 → isFor i p (run xs (start eid store0 store1) .world) ≡ true
+    → (fixedAtEntry i (requestWith p (run xs (start eid store0 store1) .log i)) ≡ [] → ⊥)
+    → Within (run xs (start eid store0 store1) .counted + 264) i (fixedAtEntry i (requestWith p (run xs (start eid store0 store1) .log i)))
+    (fate i ys (next (receive p) (run xs (start eid store0 store1))))
 
 -- ---- DEMAND 2, the ticket rule
 
 -- any list of calls from any setup, on two stores of 4,224 bytes
 abbrev pub Every : (History → Type 0) → Type 0
 Every P =
-    (eid : ℕ) (store0 store1 : List ℕ) → length store0 ≡ store-size → length store1 ≡ store-size → (xs : List Call) → P (run xs (start eid store0 store1))
+    (eid : ℕ) (store0 store1 : List ℕ) → length store0 ≡ 4224 → length store1 ≡ 4224 → (xs : List Call) → P (run xs (start eid store0 store1))
 
 -- the slot's ticket is the number of its entries into Process, modulo 2^32; no call sets it back, a reset neither
 abbrev pub TicketCount : Type 0
@@ -109,13 +129,17 @@ AnswersOwn =
 abbrev pub routeOf : History → ℕ → Route
 routeOf h i = record { destination = h .log i .requester; source = h .world .endpoint .eid; to = false; tag = h .log i .tag }
 
+-- the packet of the control reply that waits: version 1, to its requester, from this endpoint, SOM and EOM, sequence 0, TO 0, its tag
+abbrev pub replyPacket : Endpoint → List ℕ
+replyPacket e = 1 ∷ e .«reply_to» ∷ e .eid ∷ (0xC0 + e .«reply_tag» % 8) ∷ e .reply
+
 -- a packet that a poll hands out of slot i is the next packet of the response fixed for the slot's last entry; and one that is of no slot is
 -- the control reply that waited
 pub record Belongs (h : History) (buffer : List ℕ) (bytes : List ℕ) : Type 0 where
   pub of-slot : (i : ℕ) → i ≤ 1 → isPacketOf (phaseAt (h .world) i) (phaseAt (step (poll buffer) (h .world) .world) i) (handed-out bytes) ≡ true
       → bytes ≡ packet 64 (routeOf h i) (h .log i .response) (h .log i .packets)
   pub of-none : ((i : ℕ) → i ≤ 1 → isPacketOf (phaseAt (h .world) i) (phaseAt (step (poll buffer) (h .world) .world) i) (handed-out bytes) ≡ false)
-      → (h .world .endpoint .«reply_waits» ≡ true) × (bytes ≡ controlPacket (h .world .endpoint))
+      → (h .world .endpoint .«reply_waits» ≡ true) × (bytes ≡ replyPacket (h .world .endpoint))
 
 -- AN ANSWER BELONGS TO ITS QUESTION
 abbrev pub AnswerBelongs : Type 0
@@ -141,3 +165,17 @@ abbrev pub FlagsFit : Type 0
 FlagsFit =
     Every (λ h. (i : ℕ) → i ≤ 1
     → (isAnswered (phaseAt (h .world) i) ≡ true → pausedAt (h .world) i ≡ true) × (isIdleNow (phaseAt (h .world) i) ≡ true → pausedAt (h .world) i ≡ false))
+
+-- what demand 3 excuses, an Abort that acts on the slot or a reset, does send the slot to Idle
+abbrev pub AbortIdles : Type 0
+AbortIdles = Every (λ h. (c : Call) (i : ℕ) → i ≤ 1 → cuts i c (h .world) ≡ true → phaseAt (step c (h .world) .world) i ≡ Idle)
+
+-- the invariant holds after every list of calls, and both stores keep their length
+abbrev pub AlwaysSound : Type 0
+AlwaysSound = Every (λ h. Sound (h .world))
+
+-- the EID is the one that setup was given, 8 where it refused it; no call changes it
+abbrev pub EidKept : Type 0
+EidKept =
+    (eid : ℕ) (store0 store1 : List ℕ) → length store0 ≡ 4224 → length store1 ≡ 4224 → (xs : List Call)
+    → run xs (start eid store0 store1) .world .endpoint .eid ≡ (if leb 8 eid && leb eid 254 then eid else 8)

@@ -51,10 +51,10 @@ taken e i =
     if not (isSlot i) then takeEnded (Refused no-such-slot) e
     else takenFrom e i (slotAt e i .phase)
 
--- document 01's number for what taking answers
-abbrev pub takeNumber : TakeAnswer → ℕ
-takeNumber (Refused n) = n
-takeNumber (Given t) = done
+-- document 01's number for what taking answers, and the values beside it: behind 0 the ticket
+abbrev pub takeSays : TakeAnswer → ℕ × List ℕ
+takeSays (Refused n) = (n, [])
+takeSays (Given t) = (done, t .0 ∷ [])
 
 -- ---- reading: the request as a part of the slot's store, check included; empty if the slot is above 1, a store has another length, or
 -- no taken command there awaits completion

@@ -12,7 +12,7 @@ use Rattle.lent.specs.Bytes.{byteAt, isSet}
 use Rattle.nvme_mi.specs.Check.{checkRight, withCheck}
 use Rattle.machine.specs.State.{World, slotAt}
 use Rattle.machine.specs.Calls.{Call, receive, take!, read, complete, poll, timeout, reset, Event, number, given, part-read, handed-out, Stepped, step, begin}
-use Rattle.machine.specs.Valid.{phased}
+use Rattle.machine.specs.Valid.{phased, allOf}
 use Rattle.machine.specs.declared.Phase.{Phase}
 
 -- ---- a packet's bytes
@@ -60,6 +60,8 @@ pub record Log : Type 0 where
   pub payloads : List ℕ
   -- entries into Process
   pub entries : ℕ
+  -- takes since the last entry that gave a ticket
+  pub takes : ℕ
 
 -- ---- a command's packet: one that receiving answered with 0, more to come, or 1, command complete
 
@@ -82,6 +84,7 @@ gaining p l =
       packets = l .packets;
       payloads = l .payloads;
       entries = l .entries;
+      takes = l .takes;
     }
 
 -- ---- "The response for a slot's ticket belongs to its last entry into Process"
@@ -115,6 +118,7 @@ entering i p l =
       packets = l .packets;
       payloads = l .payloads;
       entries = l .entries + 1;
+      takes = 0;
     }
 
 -- "Else it is [..] the body with which that command was completed"
@@ -128,6 +132,21 @@ completing i body l =
       packets = l .packets;
       payloads = l .payloads;
       entries = l .entries;
+      takes = l .takes;
+    }
+
+-- a take gave the command's ticket
+abbrev pub taking : Log → Log
+taking l =
+    record {
+      request = l .request;
+      requester = l .requester;
+      tag = l .tag;
+      response = l .response;
+      packets = l .packets;
+      payloads = l .payloads;
+      entries = l .entries;
+      takes = l .takes + 1;
     }
 
 abbrev pub byNumber : {A : Type 0} → (ℕ → A) → A → Event → A
@@ -136,11 +155,17 @@ byNumber f a (given t) = a
 byNumber f a (part-read s) = a
 byNumber f a (handed-out s) = a
 
+abbrev pub byTicket : {A : Type 0} → A → A → Event → A
+byTicket b a (number n) = a
+byTicket b a (given t) = b
+byTicket b a (part-read s) = a
+byTicket b a (handed-out s) = a
+
 -- what a call adds to slot i's command and its response
 abbrev pub commanded : ℕ → Call → World → Event → Log → Log
 commanded i (receive p) w v l =
     byNumber (λ n. if eqb n 0 && isFor i p w then gaining p l else if eqb n 1 && isFor i p w then entering i p l else l) l v
-commanded i (take! j) w v l = l
+commanded i (take! j) w v l = byTicket (if eqb j i then taking l else l) l v
 commanded i (read j) w v l = l
 commanded i (complete j t body) w v l = byNumber (λ n. if eqb n 0 && eqb j i then completing i body l else l) l v
 commanded i (poll buffer) w v l = l
@@ -178,6 +203,7 @@ sending l packets payloads =
       packets = packets;
       payloads = payloads;
       entries = l .entries;
+      takes = l .takes;
     }
 
 -- "The first packet is the first since the slot last entered Transmit": then none went yet
@@ -232,21 +258,40 @@ unfolding begin
 start eid store0 store1 =
     record {
       world = begin eid store0 store1;
-      log = λ i. record { request = []; requester = 0; tag = 0; response = []; packets = 0; payloads = []; entries = 0 };
+      log = λ i. record { request = []; requester = 0; tag = 0; response = []; packets = 0; payloads = []; entries = 0; takes = 0 };
       counted = 0;
     }
 
 -- ---- "A slot is aborted when an Abort acts on it; an error reply aborts nothing."
 
--- the packet of an Abort for slot i that acts: sixteen bytes, version 1, to this EID, SOM, EOM and TO 1; message type 84h, ROR 0, NMIMT 0,
--- CSI i, MEB 0, CIAP 0; opcode 2; the check right
+-- the packet of a control primitive that comes whole: sixteen bytes, version 1, to this EID, SOM, EOM and TO 1; message type 84h, ROR 0,
+-- NMIMT 0; the check right
+abbrev pub controlTests : ℕ → List ℕ → List Bool
+controlTests eid p =
+    eqb (length p) 16
+    ∷ eqb (byteAt p 0 % 16) 1
+    ∷ eqb (byteAt p 1) eid
+    ∷ hasSom p
+    ∷ isSet (byteAt p 3) 6
+    ∷ isSet (byteAt p 3) 3
+    ∷ eqb (byteAt (bytesFrom4 p) 0) 0x84
+    ∷ not (isSet (byteAt (bytesFrom4 p) 1) 7)
+    ∷ eqb (byteAt (bytesFrom4 p) 1 / 8 % 16) 0
+    ∷ checkRight (bytesFrom4 p)
+    ∷ []
+
+abbrev pub isControl : ℕ → List ℕ → Bool
+isControl eid p = allOf (controlTests eid p)
+
+-- one that acts, with this opcode (0 to 3): MEB 0, CIAP 0
+abbrev pub isPrimitive : ℕ → ℕ → List ℕ → Bool
+isPrimitive opcode eid p =
+    allOf
+    (isControl eid p ∷ not (isSet (byteAt (bytesFrom4 p) 2) 0) ∷ not (isSet (byteAt (bytesFrom4 p) 2) 1) ∷ eqb (byteAt (bytesFrom4 p) 4) opcode ∷ [])
+
+-- an Abort (2) for slot i that acts: its CSI is i
 abbrev pub isAbort : ℕ → ℕ → List ℕ → Bool
-isAbort i eid p =
-    eqb (length p) 16 && eqb (byteAt p 0 % 16) 1 && eqb (byteAt p 1) eid
-    && hasSom p && isSet (byteAt p 3) 6 && isSet (byteAt p 3) 3
-    && eqb (byteAt p 4) 0x84 && not (isSet (byteAt p 5) 7) && eqb (byteAt p 5 / 8 % 16) 0 && eqb (byteAt p 5 % 2) i
-    && not (isSet (byteAt p 6) 0) && not (isSet (byteAt p 6) 1)
-    && eqb (byteAt p 8) 2 && checkRight (bytesFrom4 p)
+isAbort i eid p = isPrimitive 2 eid p && eqb (byteAt (bytesFrom4 p) 1 % 2) i
 
 -- slot i is aborted, or the endpoint reset
 abbrev pub cuts : ℕ → Call → World → Bool

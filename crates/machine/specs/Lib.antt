@@ -9,5 +9,10 @@ pub mod Poll
 pub mod Valid
 pub mod Calls
 pub mod History
+pub mod Numbers
 pub mod Demands
+pub mod Stale
+pub mod Commands
+pub mod Pauses
 pub mod Refusals
+pub mod Replies

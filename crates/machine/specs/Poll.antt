@@ -2,7 +2,7 @@
 -- Assumes nothing.
 use Prim.Native.Nat.{ℕ, _+_, _-_, _*_}
 use mathlib.Core.Bool.{Bool, not, _&&_, _||_}
-use mathlib.Core.List.{List, _∷_, _++_}
+use mathlib.Core.List.{List, [], _∷_, _++_}
 use lib.Dec.{eqb, ltb}
 use lib.ListN.{length, take, drop}
 use Rattle.lent.specs.Choice.{if_then_else_}
@@ -29,11 +29,11 @@ pub record Polled : Type 0 where
 abbrev pub polledTo : PollAnswer → Endpoint → List ℕ → Polled
 polledTo a e buffer = record { answer = a; endpoint = e; buffer = buffer }
 
--- document 01's number for what polling answers
-abbrev pub pollNumber : PollAnswer → ℕ
-pollNumber (Refused n) = n
-pollNumber Silent = nothing-to-send
-pollNumber (Packet n) = packet-sent
+-- document 01's number for what polling answers, and the values beside it: behind 1 the packet's length
+abbrev pub pollSays : PollAnswer → ℕ × List ℕ
+pollSays (Refused n) = (n, [])
+pollSays Silent = (nothing-to-send, [])
+pollSays (Packet n) = (packet-sent, n ∷ [])
 
 -- ---- "A command packet is ready if a slot is in Transmit and neither pause flag is set."
 

@@ -2,20 +2,28 @@
 -- Last, the numbers that each call can answer. The proofs: `refused-packet`, `flag-column`, `wrong-stores-unchanged`, `refused-call` and `named`
 -- (proofs/Refusals).
 -- Assumes nothing.
-use Prim.Native.Nat.{ℕ, _^_, _≤_}
+use Prim.Native.Nat.{ℕ, _%_, _^_, _≤_}
 use mathlib.Core.Path.{_≡_}
 use mathlib.Core.Bool.{Bool, true, false, _||_}
 use mathlib.Core.List.{List, [], _∷_, map}
 use lib.Bits.{bitOr}
 use lib.Dec.{eqb}
 use Rattle.lent.specs.Choice.{if_then_else_}
-use Rattle.lent.specs.Bytes.{put}
-use Rattle.machine.specs.State.{World, slotAt, storeAt, withEndpoint, withStore, withFlags, onSlot, withBusy, idled}
-use Rattle.machine.specs.Wire.{wrongStores}
-use Rattle.machine.specs.Receive.{endAssembly, flagOf, received}
+use Rattle.lent.specs.Bytes.{byteAt, put}
+use Rattle.machine.specs.State.{World, slotAt, storeAt, withEndpoint, withStore, withFlags, onSlot, onBoth}
+use Rattle.machine.specs.Receive.{flagOf, received}
 use Rattle.machine.specs.Calls.{Call, receive, take!, read, complete, poll, timeout, reset, number, step}
-use Rattle.machine.specs.Valid.{Valid, Sound}
-use Rattle.machine.specs.History.{hasSom, sourceOf, messageTagOf, bytesFrom4}
+use Rattle.machine.specs.Valid.{Valid, Sound, phased}
+use Rattle.machine.specs.History.{hasSom, sourceOf, messageTagOf, bytesFrom4, phaseAt, receivesFrom, isFor}
+use Rattle.machine.specs.Numbers.{rightSizes}
+use Rattle.machine.specs.Demands.{isIdleNow}
+use Rattle.machine.specs.declared.Phase.{Phase}
+use Rattle.machine.specs.declared.Phase.the-variants.{Idle}
+use Rattle.machine.specs.declared.Slot.{Slot}
+
+abbrev pub isOneOf : ℕ → List ℕ → Bool
+isOneOf n [] = false
+isOneOf n (k ∷ ks) = eqb n k || isOneOf n ks
 
 -- ---- receiving
 
@@ -29,28 +37,47 @@ FlagColumn =
     map flagOf (10 ∷ 11 ∷ 12 ∷ 13 ∷ 14 ∷ 15 ∷ 16 ∷ 17 ∷ 18 ∷ 19 ∷ 20 ∷ 21 ∷ 22 ∷ 23 ∷ [])
     ≡ 0 ∷ 2 ^ 6 ∷ 2 ^ 7 ∷ 2 ^ 8 ∷ 2 ^ 12 ∷ 0 ∷ 2 ^ 9 ∷ 0 ∷ 0 ∷ 2 ^ 4 ∷ 0 ∷ 2 ^ 10 ∷ 2 ^ 11 ∷ 0 ∷ []
 
--- a packet with SOM 1 that is read: an assembly with its source and tag has ended
-abbrev pub begun : World → List ℕ → World
-begun w p = if hasSom p then withEndpoint w (endAssembly (w .endpoint) (sourceOf p) (messageTagOf p)) else w
+-- a slot that goes to Idle keeps its ticket and its bit 3, and loses its pause flag
+abbrev pub atIdle : Slot → Slot
+atIdle s = record { ticket = s .ticket; paused = false; busy = s .busy; phase = Idle }
 
 abbrev pub toIdle : World → ℕ → World
-toIdle w i = onSlot w i (idled (slotAt (w .endpoint) i))
+toIdle w i = onSlot w i (atIdle (slotAt (w .endpoint) i))
+
+-- a slot with its bit 3 set
+abbrev pub marked : Slot → Slot
+marked s = record { ticket = s .ticket; paused = s .paused; busy = true; phase = s .phase }
+
+-- a packet with SOM 1 that is read: an assembly with its source and tag in either slot has ended
+abbrev pub slotEnded : List ℕ → Slot → Slot
+slotEnded p s = if receivesFrom (sourceOf p) (messageTagOf p) (s .phase) then atIdle s else s
+
+abbrev pub assemblyEnded : World → List ℕ → World
+assemblyEnded w p = if hasSom p then withEndpoint w (onBoth (slotEnded p) (w .endpoint)) else w
+
+-- where a command's payload goes: with SOM at the front, without behind the bytes that are there
+abbrev pub placeIn : List ℕ → Phase → ℕ
+placeIn p q = if hasSom p then 0 else phased 0 (λ a. a .length) (λ r. 0) (λ r. 0) (λ r. 0) q
+
+-- the store of slot i with the packet's payload
+abbrev pub stored : World → ℕ → List ℕ → World
+stored w i p = withStore (assemblyEnded w p) i (put (storeAt (assemblyEnded w p) i) (placeIn p (phaseAt w i)) (bytesFrom4 p))
 
 pub data Leaves (w : World) (p : List ℕ) : ℕ → World → Type 0 where
   -- 10 to 14: the flag
   unread : {n : ℕ} → 10 ≤ n → n ≤ 14 → Leaves w p n (flagged w n)
   -- SOM 1, 15 to 19: an assembly with its source and tag has ended, and the flag
-  tabled : {n : ℕ} → hasSom p ≡ true → 15 ≤ n → n ≤ 19 → Leaves w p n (flagged (begun w p) n)
-  -- 20: the same, and the slot's own bit 3
-  busy : (i : ℕ) → i ≤ 1 → Leaves w p 20 (onSlot (begun w p) i (withBusy (slotAt (begun w p .endpoint) i) true))
-  -- SOM 0, 21: the flag
-  unknown : hasSom p ≡ false → Leaves w p 21 (flagged w 21)
-  -- 22, 16, 23: the slot goes to Idle, and the flag
-  sequence : hasSom p ≡ false → (i : ℕ) → i ≤ 1 → Leaves w p 22 (flagged (toIdle w i) 22)
-  size : hasSom p ≡ false → (i : ℕ) → i ≤ 1 → Leaves w p 16 (flagged (toIdle w i) 16)
-  total : hasSom p ≡ false → (i : ℕ) → i ≤ 1 → Leaves w p 23 (flagged (toIdle w i) 23)
-  -- 19 of a command: its payload is stored, the slot goes to Idle, and the flag
-  failed : (i at : ℕ) → i ≤ 1 → Leaves w p 19 (flagged (toIdle (withStore (begun w p) i (put (storeAt (begun w p) i) at (bytesFrom4 p))) i) 19)
+  tabled : {n : ℕ} → hasSom p ≡ true → 15 ≤ n → n ≤ 19 → Leaves w p n (flagged (assemblyEnded w p) n)
+  -- 20, where the slot that CSI names is not Idle: the same, and that slot's own bit 3
+  busy : (i : ℕ) → hasSom p ≡ true → i ≡ byteAt p 5 % 2 → isIdleNow (phaseAt (assemblyEnded w p) i) ≡ false
+      → Leaves w p 20 (onSlot (assemblyEnded w p) i (marked (slotAt (assemblyEnded w p .endpoint) i)))
+  -- SOM 0, 21, where no slot is in Receive with this source and tag: the flag
+  unknown : hasSom p ≡ false → ((i : ℕ) → i ≤ 1 → receivesFrom (sourceOf p) (messageTagOf p) (phaseAt w i) ≡ false) → Leaves w p 21 (flagged w 21)
+  -- 22, 16, 23: the slot in Receive with this source and tag goes to Idle, and the flag
+  broken : {n : ℕ} (i : ℕ) → hasSom p ≡ false → receivesFrom (sourceOf p) (messageTagOf p) (phaseAt w i) ≡ true → i ≤ 1
+      → isOneOf n (22 ∷ 16 ∷ 23 ∷ []) ≡ true → Leaves w p n (flagged (toIdle w i) n)
+  -- 19 of a command: its payload is stored at its place in the slot that it is for, the slot goes to Idle, and the flag
+  failed : (i : ℕ) → isFor i p w ≡ true → i ≤ 1 → Leaves w p 19 (flagged (toIdle (stored w i p) i) 19)
 
 -- any packet, in any sound state: what is answered from 3 on is a refusal, and it leaves what is said of its number
 abbrev pub RefusedPacket : Type 0
@@ -69,17 +96,13 @@ isLent reset = false
 
 -- stores of another length: 40 before any other test, and nothing changes
 abbrev pub WrongStores : Type 0
-WrongStores = (c : Call) (w : World) → isLent c ≡ true → wrongStores w ≡ true → (step c w .event ≡ number 40) × (step c w .world ≡ w)
+WrongStores = (c : Call) (w : World) → isLent c ≡ true → rightSizes w ≡ false → (step c w .event ≡ number 40) × (step c w .world ≡ w)
 
 -- 30 to 38: nothing changes, whatever stores are lent
 abbrev pub RefusedCall : Type 0
 RefusedCall = (c : Call) (w : World) (n : ℕ) → Valid (w .endpoint) → step c w .event ≡ number n → 30 ≤ n → n ≤ 38 → step c w .world ≡ w
 
 -- ---- "each call ends with an answer named in document 01"
-
-abbrev pub isOneOf : ℕ → List ℕ → Bool
-isOneOf n [] = false
-isOneOf n (k ∷ ks) = eqb n k || isOneOf n ks
 
 abbrev pub answers : Call → List ℕ
 answers (receive p) = 0 ∷ 1 ∷ 2 ∷ 10 ∷ 11 ∷ 12 ∷ 13 ∷ 14 ∷ 15 ∷ 16 ∷ 17 ∷ 18 ∷ 19 ∷ 20 ∷ 21 ∷ 22 ∷ 23 ∷ 40 ∷ []

@@ -6,17 +6,19 @@ use native.Mathlib.Numerals.{add-one}
 use native.Mathlib.Omega.{arith}
 use mathlib.Core.Path.{_≡_, refl, sym}
 use mathlib.Core.Logic.{_↔_}
-use mathlib.Core.Bool.{Bool, true, false}
-use mathlib.Core.List.{List, [], _++_}
-use lib.Dec.{eqb, leb, lit<}
+use mathlib.Core.Bool.{Bool, true, false, not}
+use mathlib.Core.List.{List, [], _∷_, _++_}
+use lib.Dec.{eqb, leb, ltb, lit<}
 use lib.ListN.{length, take, length-take, length-drop}
 use lib.Seq.{take-add}
 use borrow.Author.Tests.{leb-true, eqb-true, le-leb, le-ltb, eq-eqb}
-use Rattle.mctp.specs.Header.{bit, same, headerBytes, readHeader}
+use Rattle.lent.specs.Choice.{if_then_else_}
+use Rattle.lent.specs.Bytes.{byteAt, isSet}
+use Rattle.mctp.specs.Header.{bit, same, headerBytes, fields, readHeader, readSays, headerNumbers, too-short, too-long, wrong-version, not-ours, wrong-direction}
 use Rattle.mctp.specs.Cut.{packets, payload, packet}
 use Rattle.mctp.specs.declared.Header.{Header}
 use Rattle.mctp.specs.declared.Route.{Route}
-use Rattle.mctp.specs.declared.Read.the-variants.{Packet}
+use Rattle.mctp.specs.declared.Read.the-variants.{Refused, Packet}
 
 -- ---- how many packets
 
@@ -126,3 +128,21 @@ read-of-cut unit route message k pos inside =
     let n = payload-length unit message k in
     read-bytes (route .destination) (route .source) unit (eqb k 0) (eqb (k + 1) (packets unit (length message))) (route .to) k (route .tag)
     (payload unit message k) (omega arith) (omega arith)
+
+-- ---- the header reader's answers in numbers
+
+pub header-numbers : (eid unit : ℕ) (to : Bool) (p : List ℕ) → readSays (readHeader eid unit to p) ≡ headerNumbers eid unit to p
+unfolding readHeader
+header-numbers eid unit to p =
+    by (ltb (length p) 5) (ltb (unit + 4) (length p)) (not (eqb (byteAt p 0 % 16) 1)) (not (eqb (byteAt p 1) eid)) (not (same (isSet (byteAt p 3) 3) to))
+  where
+    by : (a b c d e : Bool)
+        → readSays (if a then Refused too-short else if b then Refused too-long else if c then Refused wrong-version else if d then Refused not-ours else if e then Refused wrong-direction else Packet (fields p))
+        ≡ (if a then (10, []) else if b then (11, []) else if c then (12, []) else if d then (13, []) else if e then (14, [])
+        else (0, byteAt p 2 ∷ bit (isSet (byteAt p 3) 7) 1 ∷ bit (isSet (byteAt p 3) 6) 1 ∷ byteAt p 3 / 16 % 4 ∷ byteAt p 3 % 8 ∷ []))
+    by true b c d e = refl
+    by false true c d e = refl
+    by false false true d e = refl
+    by false false false true e = refl
+    by false false false false true = refl
+    by false false false false false = refl

@@ -32,6 +32,9 @@ wrong-direction = 14
 
 -- ---- reading
 
+abbrev pub bit : Bool → ℕ → ℕ
+bit b value = if b then value else 0
+
 abbrev pub same : Bool → Bool → Bool
 same true b = b
 same false b = not b
@@ -57,14 +60,27 @@ readHeader eid unit to packet =
     else if not (same (isSet (byteAt packet 3) 3) to) then Refused wrong-direction
     else Packet (fields packet)
 
+-- document 01's number for what reading a header answers, and the values beside it: behind 0, read, the fields
+abbrev pub readSays : Read → ℕ × List ℕ
+readSays (Refused n) = (n, [])
+readSays (Packet h) = (0, h .source ∷ bit (h .som) 1 ∷ bit (h .eom) 1 ∷ h .sequence ∷ h .tag ∷ [])
+
+-- the first table of "Receiving" in numbers, n being the packet's whole length: 10 n below 5; 11 n above `unit` + 4; 12 version not 1; 13
+-- destination is not ours; 14 TO is another. Else the fields: source, SOM, EOM, sequence, tag.
+abbrev pub headerNumbers : ℕ → ℕ → Bool → List ℕ → ℕ × List ℕ
+headerNumbers eid unit to packet =
+    if ltb (length packet) 5 then (10, [])
+    else if ltb (unit + 4) (length packet) then (11, [])
+    else if not (eqb (byteAt packet 0 % 16) 1) then (12, [])
+    else if not (eqb (byteAt packet 1) eid) then (13, [])
+    else if not (same (isSet (byteAt packet 3) 3) to) then (14, [])
+    else (0, byteAt packet 2 ∷ bit (isSet (byteAt packet 3) 7) 1 ∷ bit (isSet (byteAt packet 3) 6) 1 ∷ byteAt packet 3 / 16 % 4 ∷ byteAt packet 3 % 8 ∷ [])
+
 -- the payload: the bytes from byte 4 on
 abbrev pub payloadOf : List ℕ → List ℕ
 payloadOf packet = drop 4 packet
 
 -- ---- writing
-
-abbrev pub bit : Bool → ℕ → ℕ
-bit b value = if b then value else 0
 
 -- the sequence number's two bits and the tag's three are taken
 abbrev pub headerBytes : ℕ → ℕ → Bool → Bool → ℕ → Bool → ℕ → List ℕ

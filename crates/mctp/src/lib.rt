@@ -4,7 +4,7 @@ ghost use mathlib.Core.Path.{_≡_};
 ghost use mathlib.Core.List.{_++_};
 ghost use Prim.Native.Nat.{min, _+_, _*_, _≤_, _<_};
 ghost use lib.ListN.{length, drop};
-ghost use Rattle.mctp.specs.Header.{readHeader, headerBytes, bit as Header·bit};
+ghost use Rattle.mctp.specs.Header.{readHeader, readSays, headerNumbers, headerBytes, bit as Header·bit};
 ghost use Rattle.mctp.specs.Cut.{packets, packet};
 ghost use Rattle.mctp.specs.Gather.{isCut, joinRefusal};
 
@@ -34,6 +34,7 @@ pub struct Route {
 // Reads the header of a packet for the endpoint `eid`, that carries at most `unit` bytes and whose bit TO is `to`.
 pub fn read_header(eid: u8, unit: usize, to: bool, packet: &[u8]) -> Read
     ensures { λ r. ⌜ r ≡ readHeader eid unit to (now (packet .entry)) ⌝ }
+    ensures { λ r. ⌜ readSays r ≡ headerNumbers eid unit to (now (packet .entry)) ⌝ }
 {
     if packet.len() < 5 {
         return Read::Refused(10);

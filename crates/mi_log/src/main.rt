@@ -1,12 +1,17 @@
-// The log program: reads records on standard input, and prints a line for each. Here is only the reading and writing; what a record
-// does is in `log`.
+// The log program: reads records on standard input, and prints a line for each. `refill` reads and `with_room` writes; all between them is in
+// `turn`. What a record does is in `log`.
 ghost use mathlib.Core.Path.{_≡_};
 ghost use mathlib.Core.Bool.{true};
-ghost use Prim.Native.Nat.{_+_, _≤_};
-ghost use lib.ListN.{length};
+ghost use mathlib.Core.List.{List, _++_};
+ghost use Prim.Native.Nat.{ℕ, _+_, _≤_};
+ghost use lib.ListN.{length, take, drop, replicate};
 ghost use Rattle.records.specs.Records.{line-room, isRecord};
+ghost use Rattle.machine.specs.Wire.{store-size};
 ghost use Rattle.machine.specs.Valid.{Valid};
-ghost use Rattle.mi_log.specs.Run.{Within, Roomy};
+ghost use Rattle.log.specs.Log.{recorded};
+ghost use Rattle.log.specs.Whole.{bad-line};
+ghost use Rattle.mi_log.specs.Run.{unread, held, afterRecord, over, missed, turned, flushed, Within, Roomy, printedTo, printedAt, Refilled};
+ghost use Rattle.mi_log.specs.Whole.{Ran};
 use log::Answer;
 use log::Session;
 use records::Head;
@@ -14,13 +19,14 @@ use records::Head;
 // Room for every line.
 const LINE_ROOM: usize = 139;
 
-// Where the unread input stands in its buffer, how much of the output buffer is filled, whether the input has ended, whether there is more
-// to do, and the session.
+// Where the unread input stands in its buffer, how much of the output buffer is filled, whether the input has ended, whether more input is
+// wanted before the next turn, whether there is more to do, and the session.
 pub struct Run {
     pub at: usize,
     pub end: usize,
     pub put: usize,
     pub ended: bool,
+    pub more: bool,
     pub on: bool,
     pub session: Session,
 }
@@ -28,6 +34,7 @@ pub struct Run {
 // Moves the n bytes from at on to the front.
 fn shift(buf: &mut [u8], at: usize, n: usize)
     requires { ⌜ at + n ≤ length (now buf) ⌝ }
+    ensures { λ _. ⌜ now (buf .exit) ≡ take n (drop at (now (buf .entry))) ++ drop n (now (buf .entry)) ⌝ }
 {
     let mut i = 0;
     while i < n {
@@ -36,24 +43,40 @@ fn shift(buf: &mut [u8], at: usize, n: usize)
     }
 }
 
-// Moves what is unread to the front, reads once behind it, and answers the new end.
-fn refill(buf: &mut [u8], at: usize, end: usize) -> usize
-    requires { ⌜ (at ≤ end) × (end ≤ length (now buf)) ⌝ }
-    ensures { λ r. ⌜ r ≤ length (now (buf .exit)) ⌝ }
+// Where more input is wanted, moves what is unread to the front, and reads once behind it.
+fn refill(buf: &mut [u8], r: Run) -> Run
+    requires { ⌜ (r .at ≤ r .end) × (r .end ≤ length (now buf)) ⌝ }
+    ensures { λ q. ⌜ Refilled r q (now (buf .entry)) (now (buf .exit)) ⌝ }
+    ensures { λ q. ⌜ (q .at ≤ q .end) × (q .end ≤ length (now (buf .exit))) ⌝ }
 {
-    let n = end - at;
+    if !r.more {
+        return r;
+    }
+    let at = r.at;
+    let n = r.end - at;
     shift(buf, at, n);
     let t = &mut buf[n..];
     let got = libc::read(0, t);
     let k = io::count(got, t);
-    n + k
+    Run {
+        at: 0,
+        end: n + k,
+        ended: k == 0,
+        more: false,
+        ..r
+    }
 }
 
 // Writes the output where a line would not fit behind it. A write that fails ends the run.
 fn with_room(out: &[u8], r: Run) -> Run
-    requires { ⌜ Within r (r .end) (length (now out)) ⌝ }
-    ensures { λ q. ⌜ Roomy r q (length (now (out .entry))) ⌝ }
+    requires { ⌜ r .put ≤ length (now out) ⌝ }
+    requires { ⌜ line-room ≤ length (now out) ⌝ }
+    ensures { λ q. ⌜ ((input a b : List ℕ) → held q input (now (out .entry)) a b ≡ flushed (q .on) (held r input (now (out .entry)) a b)) ⌝ }
+    ensures { λ q. ⌜ (q .on ≡ true → q .put + line-room ≤ length (now (out .entry))) ⌝ }
 {
+    if !r.on {
+        return r;
+    }
     let put = r.put;
     if out.len() - put >= LINE_ROOM {
         return r;
@@ -64,40 +87,30 @@ fn with_room(out: &[u8], r: Run) -> Run
 
 // Prints `bad`, and ends the run.
 fn bad(out: &mut [u8], r: Run) -> Run
-    requires { ⌜ Within r (r .end) (length (now out)) ⌝ }
-    ensures { λ q. ⌜ Within q (r .end) (length (now (out .exit))) ⌝ }
+    requires { ⌜ r .put + line-room ≤ length (now out) ⌝ }
+    ensures { λ q. ⌜ ((input a b : List ℕ) → held q input (now (out .exit)) a b ≡ over (held r input (now (out .entry)) a b) bad-line) ⌝ }
 {
-    let q = with_room(out, r);
-    let put = q.put;
+    let put = r.put;
     lent::put(out, put, b"bad\n");
     Run {
         put: put + 4,
         on: false,
-        ..q
+        ..r
     }
 }
 
-// Bytes are missing: reads more, and at the end of the input stops, with `bad` if a record is cut.
-fn more(buf: &mut [u8], out: &mut [u8], r: Run) -> Run
-    requires { ⌜ Within r (length (now buf)) (length (now out)) ⌝ }
-    ensures { λ q. ⌜ Within q (length (now (buf .exit))) (length (now (out .exit))) ⌝ }
+// Bytes are missing: more are wanted, and at the end of the input the run ends, with `bad` if a record is cut.
+fn missing(input: &[u8], out: &mut [u8], r: Run) -> Run
+    requires { ⌜ r .put + line-room ≤ length (now out) ⌝ }
+    ensures { λ q. ⌜ ((a b : List ℕ) → held q (now (input .entry)) (now (out .exit)) a b ≡ missed (held r (now (input .entry)) (now (out .entry)) a b)) ⌝ }
 {
-    let at = r.at;
-    let end = r.end;
-    if r.ended {
-        if at == end {
-            return Run { on: false, ..r };
-        }
-        return bad(out, r);
+    if !r.ended {
+        return Run { more: true, ..r };
     }
-    let e = refill(buf, at, end);
-    let ended = e == end - at;
-    Run {
-        at: 0,
-        end: e,
-        ended,
-        ..r
+    if input.len() == 0 {
+        return Run { on: false, ..r };
     }
+    bad(out, r)
 }
 
 // Does what a record says, with its line in the output from put on.
@@ -111,7 +124,8 @@ fn printed(
     body: &[u8],
 ) -> Answer
     requires { ⌜ Valid (session .endpoint) × (isRecord tag (length (now body)) ≡ true) × (put + line-room ≤ length (now out)) ⌝ }
-    ensures { λ r. ⌜ (put + r .length ≤ length (now (out .exit))) × Valid (r .session .endpoint) ⌝ }
+    ensures { λ r. ⌜ printedTo r (now (out .exit)) (now (store0 .exit)) (now (store1 .exit)) ≡ printedAt put (now (out .entry)) (recorded session (now (store0 .entry)) (now (store1 .entry)) tag (now (body .entry))) ⌝ }
+    ensures { λ r. ⌜ (r .length ≤ line-room) × Valid (r .session .endpoint) ⌝ }
 {
     let line = &mut out[put..];
     log::record(session, store0, store1, tag, body, line)
@@ -119,7 +133,7 @@ fn printed(
 
 // A whole record.
 fn one(
-    buf: &[u8],
+    input: &[u8],
     out: &mut [u8],
     store0: &mut [u8],
     store1: &mut [u8],
@@ -127,44 +141,46 @@ fn one(
     tag: u8,
     n: usize,
 ) -> Run
-    requires { ⌜ Within r (length (now buf)) (length (now out)) × (isRecord tag n ≡ true) × (r .at + 3 + n ≤ r .end) ⌝ }
-    ensures { λ q. ⌜ Within q (length (now (buf .entry))) (length (now (out .exit))) ⌝ }
+    requires { ⌜ Roomy r (r .end) (length (now out)) × (isRecord tag n ≡ true) × (3 + n ≤ length (now input)) × (r .at + length (now input) ≡ r .end) ⌝ }
+    ensures { λ q. ⌜ held q (drop (3 + n) (now (input .entry))) (now (out .exit)) (now (store0 .exit)) (now (store1 .exit)) ≡ afterRecord (held r (now (input .entry)) (now (out .entry)) (now (store0 .entry)) (now (store1 .entry))) n (recorded (r .session) (now (store0 .entry)) (now (store1 .entry)) tag (take n (drop 3 (now (input .entry))))) ⌝ }
+    ensures { λ q. ⌜ Within q (r .end) (length (now (out .exit))) ⌝ }
 {
-    let q = with_room(out, r);
-    if !q.on {
-        return q;
-    }
-    let from = r.at + 3;
-    let to = from + n;
-    let put = q.put;
+    let to = 3 + n;
+    let put = r.put;
     let session = r.session;
-    let answer = printed(out, put, store0, store1, session, tag, &buf[from..to]);
+    let answer = printed(out, put, store0, store1, session, tag, &input[3..to]);
     let next = answer.session;
     Run {
-        at: to,
+        at: r.at + to,
         put: put + answer.length,
         session: next,
         ..r
     }
 }
 
-// One turn: a read, or one record.
-fn turn(buf: &mut [u8], out: &mut [u8], store0: &mut [u8], store1: &mut [u8], r: Run) -> Run
-    requires { ⌜ Within r (length (now buf)) (length (now out)) ⌝ }
-    ensures { λ q. ⌜ Within q (length (now (buf .exit))) (length (now (out .exit))) ⌝ }
+// One turn: one record, `bad`, or asking for more input.
+fn turn(buf: &[u8], out: &mut [u8], store0: &mut [u8], store1: &mut [u8], r: Run) -> Run
+    requires { ⌜ Roomy r (length (now buf)) (length (now out)) ⌝ }
+    ensures { λ q. ⌜ held q (unread q (now (buf .entry))) (now (out .exit)) (now (store0 .exit)) (now (store1 .exit)) ≡ turned (held r (unread r (now (buf .entry))) (now (out .entry)) (now (store0 .entry)) (now (store1 .entry))) ⌝ }
+    ensures { λ q. ⌜ Within q (length (now (buf .entry))) (length (now (out .exit))) ⌝ }
 {
     let at = r.at;
     let end = r.end;
-    let head = records::read_head(&buf[at..end]);
+    let input = &buf[at..end];
+    let head = records::read_head(input);
     match head {
         Head::Bad => bad(out, r),
-        Head::More => more(buf, out, r),
-        Head::Record(tag, n) => one(buf, out, store0, store1, r, tag, n),
+        Head::More => missing(input, out, r),
+        Head::Record(tag, n) => one(input, out, store0, store1, r, tag, n),
     }
 }
 
-fn all(buf: &mut [u8], out: &mut [u8], store0: &mut [u8], store1: &mut [u8])
+// Turns, each followed by the read and the write that it makes necessary. What the output buffer then holds is not yet written.
+fn all(buf: &mut [u8], out: &mut [u8], store0: &mut [u8], store1: &mut [u8]) -> Run
     requires { ⌜ (line-room ≤ length (now out)) × (length (now out) ≤ 65536) ⌝ }
+    requires { ⌜ (now store0 ≡ replicate store-size 0) × (now store1 ≡ replicate store-size 0) ⌝ }
+    ensures { λ r. ⌜ r .put ≤ length (now (out .exit)) ⌝ }
+    ensures { λ r. ⌜ Ran (held r (unread r (now (buf .exit))) (now (out .exit)) (now (store0 .exit)) (now (store1 .exit))) ⌝ }
 {
     let session = log::begin();
     let mut r = Run {
@@ -172,16 +188,18 @@ fn all(buf: &mut [u8], out: &mut [u8], store0: &mut [u8], store1: &mut [u8])
         end: 0,
         put: 0,
         ended: false,
+        more: false,
         on: true,
         session,
     };
     let mut turns = u64::MAX;
     while turns > 0 && r.on {
         r = turn(buf, out, store0, store1, r);
+        r = refill(buf, r);
+        r = with_room(out, r);
         turns -= 1;
     }
-    let put = r.put;
-    io::write_all(1, &out[..put]);
+    r
 }
 
 fn main() {
@@ -189,5 +207,7 @@ fn main() {
     let mut out = io::large_buffer();
     let mut store0 = [0u8; 4224];
     let mut store1 = [0u8; 4224];
-    all(&mut buf, &mut out, &mut store0, &mut store1);
+    let r = all(&mut buf, &mut out, &mut store0, &mut store1);
+    let put = r.put;
+    io::write_all(1, &out[..put]);
 }

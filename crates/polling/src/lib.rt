@@ -4,7 +4,8 @@ ghost use Prim.Native.Nat.{_≤_};
 ghost use lib.ListN.{length};
 ghost use Rattle.machine.specs.State.{world};
 ghost use Rattle.machine.specs.Wire.{store-size, packet-room};
-ghost use Rattle.machine.specs.Poll.{polledTo, sendingOr, begunOr, polledBy, polled, chosen as Poll·chosen, ready as Poll·ready};
+ghost use Rattle.machine.specs.Poll.{polledTo, pollSays, sendingOr, begunOr, polledBy, polled, chosen as Poll·chosen, ready as Poll·ready};
+ghost use Rattle.machine.specs.Numbers.{pollNumber};
 ghost use Rattle.machine.specs.Valid.{Valid};
 use machine::Endpoint;
 use machine::Phase;
@@ -107,6 +108,7 @@ fn polled_by(
 pub fn poll(endpoint: Endpoint, store0: &[u8], store1: &[u8], buffer: &mut [u8]) -> PollDone
     requires { ⌜ Valid endpoint ⌝ }
     ensures { λ r. ⌜ polledTo (r .answer) (r .endpoint) (now (buffer .exit)) ≡ polled (world endpoint (now (store0 .entry)) (now (store1 .entry))) (now (buffer .entry)) ⌝ }
+    ensures { λ r. ⌜ pollSays (r .answer) .0 ≡ pollNumber (world endpoint (now (store0 .entry)) (now (store1 .entry))) (now (buffer .entry)) ⌝ }
     ensures { λ r. ⌜ Valid (r .endpoint) ⌝ }
 {
     if wrong_stores(store0.len(), store1.len()) {

@@ -1,8 +1,7 @@
 -- The bytes of "The log program": which are a record, and the line that answers one.
 -- Assumes nothing.
-use Prim.Native.Nat.{ℕ, _+_, _*_, _/_, _%_, _≤_}
-use mathlib.Core.Path.{_≡_}
-use mathlib.Core.Bool.{Bool, true, false, not, _&&_}
+use Prim.Native.Nat.{ℕ, _+_, _*_, _/_, _%_}
+use mathlib.Core.Bool.{Bool, false, not, _&&_}
 use mathlib.Core.List.{List, [], _∷_, _++_}
 use lib.Dec.{eqb, leb, ltb}
 use lib.ListN.{length}
@@ -44,12 +43,6 @@ headed bytes =
     else if ltb (length bytes) (head-size + lengthOf bytes) then More
     else Record (byteAt bytes 0) (lengthOf bytes)
 
--- a record that is there whole can be given to `recorded`
-abbrev pub HeadFacts : ℕ → Head → Type 0
-HeadFacts size Bad = Unit {0}
-HeadFacts size More = Unit {0}
-HeadFacts size (Record tag n) = (isRecord tag n ≡ true) × (head-size + n ≤ size)
-
 -- ---- lines
 
 abbrev pub newline : ℕ
@@ -74,9 +67,9 @@ hex (b ∷ bytes) = hexDigit (b / 16) ∷ hexDigit (b % 16) ∷ hex bytes
 abbrev pub numberLine : ℕ → List ℕ
 numberLine n = decimal n ++ (newline ∷ [])
 
--- 1, a space, the packet
-abbrev pub packetLine : List ℕ → List ℕ
-packetLine packet = 49 ∷ 32 ∷ (hex packet ++ (newline ∷ []))
+-- a number, a space, the packet
+abbrev pub packetLine : ℕ → List ℕ → List ℕ
+packetLine n packet = decimal n ++ (32 ∷ (hex packet ++ (newline ∷ [])))
 
 -- room for every line: that of a packet of 68 bytes is the longest
 abbrev pub line-room : ℕ

@@ -4,7 +4,7 @@ ghost use mathlib.Core.List.{[], _∷_};
 ghost use Prim.Native.Nat.{_+_, _*_, _≤_, _<_};
 ghost use lib.ListN.{length};
 ghost use Rattle.lent.specs.Bytes.{put as Bytes·put};
-ghost use Rattle.records.specs.Records.{line-room, isRecord, headed, HeadFacts, hexDigit, hex as Records·hex, numberLine, packetLine};
+ghost use Rattle.records.specs.Records.{line-room, isRecord, headed, hexDigit, hex as Records·hex, numberLine, packetLine};
 
 // The longest record's bytes, without tag and length.
 const LONGEST: usize = 4300;
@@ -41,7 +41,6 @@ pub fn wide(b: u8) -> usize
 // Reads the head of the record at the front of the unread bytes.
 pub fn read_head(bytes: &[u8]) -> Head
     ensures { λ r. ⌜ r ≡ headed (now (bytes .entry)) ⌝ }
-    ensures { λ r. ⌜ HeadFacts (length (now (bytes .entry))) r ⌝ }
 {
     if bytes.len() < 3 {
         return Head::More;
@@ -111,11 +110,11 @@ fn hex(out: &mut [u8], at: usize, bytes: &[u8])
     }
 }
 
-// Writes the line of a poll that sends, and returns the line's length.
+// Writes the line of a poll that sends, 1 and the packet, and returns the line's length.
 pub fn packet_line(line: &mut [u8], packet: &[u8]) -> usize
     requires { ⌜ (line-room ≤ length (now line)) × (length (now packet) ≤ 68) ⌝ }
-    ensures { λ r. ⌜ (r ≡ length (packetLine (now (packet .entry)))) × (r ≤ line-room) ⌝ }
-    ensures { λ _. ⌜ now (line .exit) ≡ Bytes·put (now (line .entry)) 0 (packetLine (now (packet .entry))) ⌝ }
+    ensures { λ r. ⌜ (r ≡ length (packetLine 1 (now (packet .entry)))) × (r ≤ line-room) ⌝ }
+    ensures { λ _. ⌜ now (line .exit) ≡ Bytes·put (now (line .entry)) 0 (packetLine 1 (now (packet .entry))) ⌝ }
 {
     line[0] = 49;
     line[1] = 32;

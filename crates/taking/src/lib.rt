@@ -3,7 +3,8 @@ ghost use mathlib.Core.Path.{_≡_};
 ghost use lib.ListN.{length};
 ghost use Rattle.machine.specs.State.{world};
 ghost use Rattle.machine.specs.Wire.{store-size};
-ghost use Rattle.machine.specs.Finish.{taken, partOf, part};
+ghost use Rattle.machine.specs.Finish.{taken, takeSays, partOf, part};
+ghost use Rattle.machine.specs.Numbers.{takeNumbers};
 ghost use Rattle.machine.specs.Valid.{PhaseFacts, Valid};
 use machine::Endpoint;
 use machine::Phase;
@@ -19,6 +20,7 @@ use slots::wrong_stores;
 pub fn take(endpoint: Endpoint, slot: usize) -> TakeDone
     requires { ⌜ Valid endpoint ⌝ }
     ensures { λ r. ⌜ r ≡ taken endpoint slot ⌝ }
+    ensures { λ r. ⌜ takeSays (r .answer) ≡ takeNumbers endpoint slot ⌝ }
     ensures { λ r. ⌜ Valid (r .endpoint) ⌝ }
 {
     if slot >= 2 {

@@ -24,7 +24,7 @@ returns : tie.Need-returns
 returns c =
     let l = c .before .before .before in
     let p = l .before .before .before .before in
-    rw (← p .poll .ensures .0) (told-by (pollLine _ (p .poll .result .answer)) (l .poll-line .ensures) (c .moved .ensures) (p .poll .ensures .1))
+    rw (← p .poll .ensures .0) (told-by (pollLine _ (p .poll .result .answer)) (l .poll-line .ensures) (c .moved .ensures) (p .poll .ensures .1 .1))
 
 pub poll-record-spec : {M : Type 1} → statement M
 poll-record-spec =

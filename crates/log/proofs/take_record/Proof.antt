@@ -2,7 +2,7 @@
 -- Assumes nothing.
 use borrow.Author.Needs.{needs}
 use mathlib.Core.Path.{_∙_}
-use Rattle.machine.specs.Finish.{takeNumber}
+use Rattle.machine.specs.Finish.{takeSays}
 use Rattle.log.proofs.Told.{told-by, kept-valid}
 use Rattle.records.specs.Records.{numberLine}
 use Rattle.log.specs.Log.{withEndpoint}
@@ -16,9 +16,9 @@ returns c =
     let a = r .before .before .args in
     let d = r .take .result in
     λ x y. rw (← r .take .ensures .0)
-    (told-by (numberLine (takeNumber (d .answer))) (rw (n .before .take-number .ensures) at (n .number-line .ensures))
+    (told-by (numberLine (takeSays (d .answer) .0)) (rw (n .before .take-number .ensures) at (n .number-line .ensures))
     (c .ticket-kept .ensures ∙ rw (c .before .moved .ensures))
-    (kept-valid (withEndpoint (a .session) (d .endpoint)) (a .slot) (d .answer) (r .take .ensures .1)))
+    (kept-valid (withEndpoint (a .session) (d .endpoint)) (a .slot) (d .answer) (r .take .ensures .1 .1)))
 
 pub take-record-spec : {M : Type 1} → statement M
 take-record-spec =

@@ -1,31 +1,107 @@
--- `mi_log::all` meets its contract. The loop keeps both buffers' places; the turns left fall.
+-- `mi_log::all` meets its contract. The loop keeps both buffers' places, and is where turns, reads and writes led; the turns left fall.
 -- Assumes nothing.
-use mathlib.Core.Path.{_≡_, _∙_}
+use mathlib.Core.Path.{_≡_, refl, ap, _∙_}
+use mathlib.Core.Bool.{true}
+use Prim.Native.Nat.{_+_, _≤_}
 use native.Mathlib.Omega.{arith}
-use lib.ListN.{length, length-take}
+use native.Mathlib.Nat.{le-refl}
+use lib.ListN.{length}
 use borrow.Author.Needs.{needs}
-use Rattle.mi_log.specs.Run.{Within}
+use Rattle.records.specs.Records.{line-room}
+use Rattle.mi_log.specs.Run.{Held, held, unread, Within}
+use Rattle.mi_log.specs.Whole.{Ran}
+use Rattle.mi_log.proofs.Places.{within-as, input-is, refilled-within, flushed-within, flushed-unread}
+use Rattle.mi_log.proofs.Whole.{ran-as, ran-start, ran-turn, ran-read, ran-write}
 use Rattle.mi_log.proofs.all.Statement.{statement}
 use Rattle.mi_log.proofs.all.Tie as tie
 
 abbrev Inv-loop : tie.InvT-loop
 Inv-loop buf₀ out₀ store0₀ store1₀ r₀ turns₀ buf out store0 store1 r turns =
-    Within r (length buf) (length out) × (length buf ≡ length buf₀) × (length out ≡ length out₀) × (length store0 ≡ length store0₀)
+    Within r (length buf) (length out)
+    × (r .on ≡ true → r .put + line-room ≤ length out)
+    × Ran (held r (unread r buf) out store0 store1)
+    × (length buf ≡ length buf₀)
+    × (length out ≡ length out₀)
+    × (length store0 ≡ length store0₀)
     × (length store1 ≡ length store1₀)
 
 abbrev μ-loop : tie.MeasureT-loop
 μ-loop buf₀ out₀ store0₀ store1₀ r₀ turns₀ buf out store0 store1 r turns = turns
 
+loop-holds : tie.Need-loop-holds Inv-loop μ-loop
+loop-holds c =
+    let b = c .begin .ensures in
+    let s = c .before .before .before .before .before in
+    let a = s .args in (
+      record { first = omega arith; last = omega arith; filled = omega arith; small = s .pre .0 .1; session-valid = b .1 },
+      λ _. s .pre .0 .0,
+      ran-start _ (a .out .now) (a .store0 .now) (a .store1 .now) (b .0) (s .pre .1 .0) (s .pre .1 .1),
+      refl,
+      refl,
+      refl,
+      refl,
+    )
+
+turn-requires : tie.Need-turn-requires Inv-loop μ-loop
+turn-requires c κs =
+    let t = c .before .before .before .before in
+    let inv = t .before .before .loop .inv in
+    record { within = inv .0; fits = inv .1 (t .if1 .taken) }
+
+refill-requires : tie.Need-refill-requires Inv-loop μ-loop
+refill-requires c κs =
+    let w = c .before .before .before .before .before .before .before .turn .ensures .1 in
+    (w .first, w .last)
+
+with-room-requires : tie.Need-with-room-requires Inv-loop μ-loop
+with-room-requires c κs =
+    let f = c .before .before .before .refill .ensures in
+    let at-turn = c .before .before .before .before .before .before .before .before .before .before .before in
+    let t = at-turn .turn in
+    let at-loop = at-turn .before .before .before .before .before .before .before in
+    let size = t .kept .1 .0 ∙ at-loop .loop .inv .4 in
+    (refilled-within (f .0) (t .ensures .1) (f .1) .filled, rw size (at-loop .before .before .before .before .before .before .pre .0 .0))
+
+sub-turns : tie.Need-sub-turns Inv-loop μ-loop
+sub-turns c =
+    let test = c .before .before .before .before .before .before .before .before .before .before .before .before .before .before .before .before .before .before in
+    omega (arith, test .loop-test .taken)
+
+loop-less : tie.Need-loop-less Inv-loop μ-loop
+loop-less c =
+    let test = c .before .before .before .before .before .before .before .before .before .before .before .before .before .before .before .before .before .before in
+    omega (arith, test .loop-test .taken)
+
 loop-again : tie.Need-loop-again Inv-loop μ-loop
 loop-again c =
-    let call = c .before .before .before .before .before .before .before .before in
-    let t = call .turn in
-    let inv = call .before .before .before .before .before .before .before .loop .inv in
-    (t .ensures, t .kept .0 ∙ inv .1, t .kept .1 .0 ∙ inv .2, t .kept .1 .1 .0 ∙ inv .3, t .kept .1 .1 .1 .0 ∙ inv .4)
+    let f = c .before .before .before .before .refill in
+    let at-turn = c .before .before .before .before .before .before .before .before .before .before .before .before in
+    let t = at-turn .turn in
+    let test = at-turn .before .before .before .before .before in
+    let l = test .before .before .loop in
+    let o = c .with-room .ensures .0 in
+    let a = t .last .1 .1 .0 in
+    let b = t .last .1 .1 .1 .0 in
+    let h = held (f .result) (unread (f .result) (f .last .0)) (t .last .1 .0) a b in (
+      within-as (flushed-within _ h (refilled-within (f .ensures .0) (t .ensures .1) (f .ensures .1))) (ap (λ (x : Held). x .run) (o _ a b)) (le-refl _) refl,
+      c .with-room .ensures .1,
+      ran-as (input-is (f .last .0) (o _ a b) (flushed-unread _ h (f .last .0)))
+          (ran-write h _ (ran-as (f .ensures .0 .left _ a b) (ran-read _ (f .ensures .0 .piece) (ran-as (t .ensures .0) (ran-turn _ (test .if1 .taken) (l .inv .2)))))),
+      f .kept .0 ∙ l .inv .3,
+      t .kept .1 .0 ∙ l .inv .4,
+      t .kept .1 .1 .0 ∙ l .inv .5,
+      t .kept .1 .1 .1 .0 ∙ l .inv .6,
+    )
+
+returns : tie.Need-returns Inv-loop μ-loop
+returns c = let inv = c .before .before .loop .inv in (inv .0 .filled, inv .2)
+
+returns-2 : tie.Need-returns-2 Inv-loop μ-loop
+returns-2 c = let inv = c .before .loop .inv in (inv .0 .filled, inv .2)
 
 pub all-spec : {M : Type 1} → statement M
 all-spec =
     tie.close
-    (tie.spec Inv-loop μ-loop (λ c κs. search needs) (λ c. search needs) (λ c κs. search needs) (λ c. search needs) (λ c. search needs)
-    loop-again (λ c. search needs) (λ c. simp length-take (omega arith)) (λ c κs. search needs) (λ c. search needs) (λ c. search needs)
-    (λ c. search needs) (λ c. search needs) (λ c. search needs))
+    (tie.spec Inv-loop μ-loop (λ c κs. search needs) loop-holds turn-requires refill-requires with-room-requires sub-turns loop-less loop-again
+    (λ c. search needs) (λ c. search needs) (λ c. search needs) (λ c. search needs) returns
+    (λ c. search needs) (λ c. search needs) (λ c. search needs) (λ c. search needs) returns-2)

@@ -1,43 +1,49 @@
 -- `mi_log::one` meets its contract: the record's bytes lie in the input, and its line in the output.
 -- Assumes nothing.
-use Prim.Native.Nat.{ℕ, _+_, _-_, _≤_}
+use Prim.Native.Nat.{ℕ, _+_, _-_}
 use mathlib.Core.Path.{_≡_}
-use mathlib.Core.List.{List}
 use native.Mathlib.Omega.{arith}
 use lib.ListN.{length, take, drop, length-take, length-drop}
 use borrow.Author.Needs.{needs}
+use Rattle.mi_log.specs.Run.{held}
+use Rattle.mi_log.proofs.Places.{record-done}
 use Rattle.mi_log.proofs.one.Statement.{statement}
 use Rattle.mi_log.proofs.one.Tie as tie
 
--- a part's length
-part-size : (at n : ℕ) (l : List ℕ) → at + n ≤ length l → length (take (at + n - at) (drop at l)) ≡ n
-part-size at n l h = simp (length-take, length-drop) (omega arith)
+-- the body's length
+size : (n : ℕ) → 3 + n - 3 ≡ n
+size n = omega arith
 
 printed-requires : tie.Need-printed-requires
 printed-requires c κs =
-    let s = c .before .before .before .before .before .before .before .before .before .before .before .before .before .before in
+    let s = c .before .before .before .before .before .before .before .before .before in
     let a = s .args in
-    let part = part-size (a .r .at + 3) (a .n) (a .buf .now) (omega arith) in
-    (s .pre .0 .session-valid, rw part (s .pre .1), c .before .before .before .before .before .before .before .before .with-room .ensures .fits)
+    let part : length (take (3 + a .n - 3) (drop 3 (a .input .now))) ≡ a .n = simp (length-take, length-drop) (omega (arith, s .pre .2)) in
+    (s .pre .0 .within .session-valid, rw part (s .pre .1), s .pre .0 .fits)
 
-add-put : tie.Need-add-t25
-add-put c = record { fits = omega (arith, c .before .before .before .before .before .before .before .before .printed .ensures .0, c .before .before .before .before .before .before .before .before .printed .kept .0, c .before .before .before .before .before .before .before .before .before .before .before .before .before .before .before .before .before .before .before .before .before .before .before .pre .0 .small) }
+add-put : tie.Need-add-t23
+add-put c =
+    let p = c .before .before .before .before .before .before .before .before .before .printed in
+    let s = c .before .before .before .before .before .before .before .before .before .before .before .before .before .before .before .before .before .before .before in
+    record { fits = omega (arith, p .ensures .1 .0, s .pre .0 .fits, s .pre .0 .within .small) }
 
-returns-2 : tie.Need-returns-2
-returns-2 c =
-    let p = c .before .before .before .before .before .before .before .before .printed in
-    let s = c .before .before .before .before .before .before .before .before .before .before .before .before .before .before .before .before .before .before .before .before .before .before .before in
-    record {
-      first = omega (arith, s .pre .2);
-      last = s .pre .0 .last;
-      filled = p .ensures .0;
-      room = omega (arith, s .pre .0 .room, p .kept .0);
-      small = omega (arith, s .pre .0 .small, p .kept .0);
-      session-valid = p .ensures .1;
-    }
+returns : tie.Need-returns
+returns c =
+    let p = c .before .before .before .before .before .before .before .before .before .printed in
+    let s = c .before .before .before .before .before .before .before .before .before .before .before .before .before .before .before .before .before .before .before in
+    let a = s .args in (
+      record-done (held (a .r) (a .input .now) (a .out .now) (a .store0 .now) (a .store1 .now)) (a .n) _ (rw (size (a .n)) at (p .ensures .0)),
+      record {
+        first = omega (arith, s .pre .2, s .pre .3);
+        last = omega arith;
+        filled = omega (arith, p .ensures .1 .0, p .kept .0, s .pre .0 .fits);
+        small = omega (arith, s .pre .0 .within .small, p .kept .0);
+        session-valid = p .ensures .1 .1;
+      },
+    )
 
 pub one-spec : {M : Type 1} → statement M
 one-spec =
     tie.close
-    (tie.spec (λ c κs. search needs) (λ c. search needs) (λ c. search needs) (λ c. search needs) (λ c. search needs) (λ c. search needs)
-    (λ c. search needs) (λ c. search needs) printed-requires add-put (λ c. search needs) (λ c. search needs) (λ c. search needs) returns-2)
+    (tie.spec (λ c. search needs) (λ c. search needs) (λ c. search needs) (λ c. search needs) printed-requires (λ c. search needs) add-put
+    (λ c. search needs) (λ c. search needs) (λ c. search needs) returns)

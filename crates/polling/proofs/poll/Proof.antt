@@ -1,7 +1,7 @@
 -- `polling::poll` meets its contract: each way out has the tests that lead to its row of `polled`, and that keeps the invariant.
 -- Assumes nothing.
 use Prim.Native.Nat.{ℕ}
-use mathlib.Core.Path.{_≡_, sym, _∙_}
+use mathlib.Core.Path.{_≡_, sym, ap, _∙_}
 use mathlib.Core.List.{List}
 use native.Mathlib.Omega.{arith}
 use lib.ListN.{length}
@@ -9,16 +9,21 @@ use borrow.Author.Tests.{lt-ltb, le-ltb}
 use borrow.Author.Needs.{needs}
 use Rattle.machine.specs.State.{World, world}
 use Rattle.machine.specs.Wire.{packet-room}
-use Rattle.machine.specs.Poll.{Polled, polled}
+use Rattle.machine.specs.Poll.{Polled, pollSays, polled}
+use Rattle.machine.specs.Numbers.{pollNumber}
 use Rattle.machine.specs.Valid.{Valid}
 use Rattle.machine.proofs.Keeps.{polled-valid, sizes}
+use Rattle.machine.proofs.Numbers.{poll-numbers}
 use Rattle.slots.proofs.Kept.{kept}
 use Rattle.polling.proofs.poll.Statement.{statement}
 use Rattle.polling.proofs.poll.Tie as tie
 
+-- the number and the invariant follow from the row
 done : (w : World) (buffer : List ℕ) {p : Polled} → Valid (w .endpoint) → p ≡ polled w buffer
-    → (p ≡ polled w buffer) × Valid (p .endpoint)
-done w buffer v h = kept (λ (p : Polled). Valid (p .endpoint)) (polled-valid w buffer v) h
+    → (p ≡ polled w buffer) × ((pollSays (p .answer) .0 ≡ pollNumber w buffer) × Valid (p .endpoint))
+done w buffer v h =
+    kept (λ (p : Polled). (pollSays (p .answer) .0 ≡ pollNumber w buffer) × Valid (p .endpoint))
+    (ap (λ (x : ℕ × List ℕ). x .0) (poll-numbers w buffer v), polled-valid w buffer v) h
 
 returns : tie.Need-returns
 unfolding polled

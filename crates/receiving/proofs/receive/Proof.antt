@@ -41,7 +41,7 @@ sized : (r : tie.After-read) → let n = length (start (r .before .before .befor
 sized r =
     let header = r .before .before in
     let s = start (header .before) in
-    packet-sized (s .args .endpoint .eid) (s .args .packet .now) (sym (header .read-header .ensures) ∙ r .read .given .1)
+    packet-sized (s .args .endpoint .eid) (s .args .packet .now) (sym (header .read-header .ensures .0) ∙ r .read .given .1)
 
 -- SOM 1, of a packet that is read
 by-first : (w : World) (packet : List ℕ) (h : Header) → wrongStores w ≡ false → readHeader (w .endpoint .eid) unit inward packet ≡ Packet h → h .som ≡ true
@@ -63,7 +63,7 @@ returns-2 c =
     let tests = header .before in
     kept Stays (still (start tests))
     (c .refused .ensures _ _
-    ∙ rw (c .before .refusal-of .ensures _ (told .enum-told .given .1), passed tests, sym (header .read-header .ensures) ∙ told .enum-told .given .1))
+    ∙ rw (c .before .refusal-of .ensures _ (told .enum-told .given .1), passed tests, sym (header .read-header .ensures .0) ∙ told .enum-told .given .1))
 
 sub-payload : tie.Need-sub-payload
 sub-payload c = omega (arith, sized (c .before))
@@ -88,7 +88,7 @@ returns-3 c =
     kept Stays (still s)
     (call .first .ensures
     ∙ rw (ending .end-assembly .ensures, rest 4)
-    (sym (by-first (lent s) (s .args .packet .now) (read .read .given .0 .0) (passed (header .before)) (sym (header .read-header .ensures) ∙ read .read .given .1) (ending .before .if2 .taken))))
+    (sym (by-first (lent s) (s .args .packet .now) (read .read .given .0 .0) (passed (header .before)) (sym (header .read-header .ensures .0) ∙ read .read .given .1) (ending .before .if2 .taken))))
 
 later-requires : tie.Need-later-requires
 later-requires c κs =
@@ -104,7 +104,7 @@ returns-4 c =
     let read = test .before .before .before in
     let header = read .before .before in
     kept Stays (still (start (header .before)))
-    (call .later .ensures ∙ rw (rest 4, passed (header .before), sym (header .read-header .ensures) ∙ read .read .given .1, test .if2 .left))
+    (call .later .ensures ∙ rw (rest 4, passed (header .before), sym (header .read-header .ensures .0) ∙ read .read .given .1, test .if2 .left))
 
 pub receive-spec : {M : Type 1} → statement M
 receive-spec =

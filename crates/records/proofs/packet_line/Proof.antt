@@ -18,13 +18,13 @@ use Rattle.records.proofs.packet_line.Tie as tie
 
 -- 1 and a space, the packet in hex, the newline
 written : (line middle packet : List ℕ) → line-room ≤ length line → length packet ≤ 68 → middle ≡ put (set (set line 0 49) 1 32) 2 (hex packet)
-    → Written (packetLine packet) line (set middle (2 + 2 * length packet) 10) (2 + 2 * length packet + 1)
+    → Written (packetLine 1 packet) line (set middle (2 + 2 * length packet) 10) (2 + 2 * length packet + 1)
 written line middle packet room small e =
     let front : put (set (set line 0 49) 1 32) 2 (hex packet) ≡ put line 0 (49 ∷ 32 ∷ hex packet) =
     ap (λ (l : List ℕ). put l 2 (hex packet)) (sets-eq (49 ∷ 32 ∷ []) line 0 (omega arith)) ∙ put-put line 0 2 (49 ∷ 32 ∷ []) (hex packet) (omega arith) refl in
     let n : length (49 ∷ 32 ∷ hex packet) ≡ 2 + 2 * length packet = omega (arith, length-hex packet) in
     let size : length (put line 0 (49 ∷ 32 ∷ hex packet)) ≡ length line = length-put line 0 (49 ∷ 32 ∷ hex packet) (omega arith) in
-    let last : put (put line 0 (49 ∷ 32 ∷ hex packet)) (length (49 ∷ 32 ∷ hex packet)) (10 ∷ []) ≡ put line 0 (packetLine packet) =
+    let last : put (put line 0 (49 ∷ 32 ∷ hex packet)) (length (49 ∷ 32 ∷ hex packet)) (10 ∷ []) ≡ put line 0 (packetLine 1 packet) =
     put-put line 0 (length (49 ∷ 32 ∷ hex packet)) (49 ∷ 32 ∷ hex packet) (10 ∷ []) (omega arith) (zero-add _) in (
       (simp (length-append, length-hex) (omega arith), omega arith),
       rw (e ∙ front, ← n) (sets-eq (10 ∷ []) (put line 0 (49 ∷ 32 ∷ hex packet)) (length (49 ∷ 32 ∷ hex packet)) (omega arith) ∙ last),

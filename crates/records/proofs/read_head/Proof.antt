@@ -8,7 +8,7 @@ use lib.ListN.{length}
 use borrow.Author.Tests.{lt-ltb, le-ltb, not-true, not-false}
 use borrow.Author.Needs.{needs}
 use Rattle.lent.specs.Bytes.{byteAt}
-use Rattle.records.specs.Records.{isRecord, lengthOf, headed, HeadFacts}
+use Rattle.records.specs.Records.{isRecord, lengthOf, headed}
 use Rattle.records.specs.declared.Head.the-variants.{Bad, More, Record}
 use Rattle.records.proofs.read_head.Statement.{statement}
 use Rattle.records.proofs.read_head.Tie as tie
@@ -24,13 +24,13 @@ module _ (bytes : List ℕ) (n : ℕ) (read : n ≡ lengthOf bytes) (three : 3 �
   cut right more = rw (le-ltb (length bytes) 3 three, ← read, right, lt-ltb (length bytes) (3 + n) more)
 
   whole : isRecord (byteAt bytes 0) n ≡ true → 3 + n ≤ length bytes
-      → (Record (byteAt bytes 0) n ≡ headed bytes) × HeadFacts (length bytes) (Record (byteAt bytes 0) n)
+      → Record (byteAt bytes 0) n ≡ headed bytes
   unfolding headed
-  whole right all = (rw (le-ltb (length bytes) 3 three, ← read, right, le-ltb (length bytes) (3 + n) all), (right, all))
+  whole right all = rw (le-ltb (length bytes) 3 three, ← read, right, le-ltb (length bytes) (3 + n) all)
 
 returns : tie.Need-returns
 unfolding headed
-returns c = (rw (lt-ltb _ _ (c .if1 .taken)), tt)
+returns c = rw (lt-ltb _ _ (c .if1 .taken))
 
 returns-2 : tie.Need-returns-2
 returns-2 c =
@@ -38,18 +38,17 @@ returns-2 c =
     let w = r .before in
     let v = w .before .before in
     let e = v .before .before .before in
-    (bad (e .before .before .args .bytes .now) _ (rw (v .wide .ensures .0, w .wide2 .ensures .0)) (e .if1 .left) (sym (r .is-record .ensures) ∙ not-true _ (c .if2 .taken)), tt)
+    bad (e .before .before .args .bytes .now) _ (rw (v .wide .ensures .0, w .wide2 .ensures .0)) (e .if1 .left)
+    (sym (r .is-record .ensures) ∙ not-true _ (c .if2 .taken))
 
 returns-3 : tie.Need-returns-3
 returns-3 c =
     let r = c .before .before in
     let w = r .before in
     let v = w .before .before in
-    let e = v .before .before .before in (
-      cut (e .before .before .args .bytes .now) _ (rw (v .wide .ensures .0, w .wide2 .ensures .0)) (e .if1 .left)
-          (sym (r .is-record .ensures) ∙ not-false _ (c .before .if2 .left)) (c .if3 .taken),
-      tt,
-    )
+    let e = v .before .before .before in
+    cut (e .before .before .args .bytes .now) _ (rw (v .wide .ensures .0, w .wide2 .ensures .0)) (e .if1 .left)
+    (sym (r .is-record .ensures) ∙ not-false _ (c .before .if2 .left)) (c .if3 .taken)
 
 returns-4 : tie.Need-returns-4
 returns-4 c =

@@ -6,20 +6,23 @@ use borrow.Author.Tests.{lt-ltb, le-ltb}
 use borrow.Author.Needs.{needs}
 use Rattle.machine.specs.Answers.{no-command}
 use Rattle.machine.specs.State.{slotAt}
-use Rattle.machine.specs.Finish.{takeEnded, takenFrom, taken}
+use Rattle.machine.specs.Finish.{takeEnded, takenFrom, taken, takeSays}
+use Rattle.machine.specs.Numbers.{takeNumbers}
 use Rattle.machine.specs.Valid.{Valid}
 use Rattle.machine.specs.declared.Phase.{Phase}
 use Rattle.machine.specs.declared.Endpoint.{Endpoint}
 use Rattle.machine.specs.declared.TakeAnswer.the-variants.{Refused}
 use Rattle.machine.specs.declared.TakeDone.{TakeDone}
 use Rattle.machine.proofs.Keeps.{taken-valid}
+use Rattle.machine.proofs.Numbers.{take-numbers}
 use Rattle.slots.proofs.Kept.{kept}
 use Rattle.slots.proofs.Other.{not-process}
 use Rattle.taking.proofs.take.Statement.{statement}
 use Rattle.taking.proofs.take.Tie as tie
 
-done : (e : Endpoint) (i : ℕ) {d : TakeDone} → Valid e → d ≡ taken e i → (d ≡ taken e i) × Valid (d .endpoint)
-done e i v h = kept (λ (d : TakeDone). Valid (d .endpoint)) (taken-valid e i v) h
+-- the numbers and the invariant follow from the row
+done : (e : Endpoint) (i : ℕ) {d : TakeDone} → Valid e → d ≡ taken e i → (d ≡ taken e i) × ((takeSays (d .answer) ≡ takeNumbers e i) × Valid (d .endpoint))
+done e i v h = kept (λ (d : TakeDone). (takeSays (d .answer) ≡ takeNumbers e i) × Valid (d .endpoint)) (take-numbers e i, taken-valid e i v) h
 
 returns : tie.Need-returns
 unfolding taken

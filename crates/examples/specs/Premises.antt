@@ -1,0 +1,120 @@
+-- The premises of the statements about lists of calls can be met: one table, by computation. Each row is what a closed run shows.
+-- Assumes nothing.
+use Prim.Native.Nat.{ℕ}
+use mathlib.Core.Path.{_≡_, refl}
+use mathlib.Core.Bool.{Bool, true, false}
+use mathlib.Core.List.{List, [], _∷_}
+use lib.ListN.{length, replicate}
+use Rattle.crc32c.specs.Crc32c.{crc32c, reflect, register, steps, step as stepCrc}
+use Rattle.mctp.specs.Header.{readHeader}
+use Rattle.mctp.specs.Cut.{packet as cutPacket}
+use Rattle.mctp.specs.Gather.{joinRefusal}
+use Rattle.nvme_mi.specs.Message.{commandFault, controlFault}
+use Rattle.nvme_mi.specs.Check.{checkRight, withCheck}
+use Rattle.nvme_mi.specs.Response.{response}
+use Rattle.machine.specs.State.{ticket}
+use Rattle.machine.specs.Calls.{Call, receive, take!, read, complete, step, begin}
+use Rattle.machine.specs.History.{History, phaseAt, pausedAt, isPacketOf, next, run, start, cuts}
+use Rattle.machine.specs.Demands.{fate, isProcess, isAnswered}
+use Rattle.examples.specs.Examples.{mi-20, nmimt-3, pause, abort, taking, completing, polling, answer}
+use Rattle.examples.specs.Runs.{zeros, resume, seen}
+
+-- ---- histories
+
+abbrev new : History
+new = start 8 zeros zeros
+
+-- slot 0 has a command: it waits, is taken, and sends a response of one packet
+abbrev waiting : History
+waiting = run (mi-20 ∷ []) new
+
+abbrev worked-on : History
+worked-on = run (mi-20 ∷ taking ∷ []) new
+
+abbrev sending : History
+sending = run (mi-20 ∷ taking ∷ completing 4 ∷ []) new
+
+-- the same under its pause flag
+abbrev paused : History
+paused = run (mi-20 ∷ taking ∷ pause ∷ []) new
+
+-- a command that was taken, aborted, and followed by another
+abbrev replaced : History
+replaced = run (mi-20 ∷ taking ∷ abort ∷ mi-20 ∷ []) new
+
+-- ---- what is looked at
+
+-- a call's answer in a history: its number; behind 0 a ticket, behind 1 a packet's length
+abbrev says : Call → History → List ℕ
+says c h = answer (step c (h .world) .event)
+
+abbrev yes : Bool → List ℕ
+yes true = 1 ∷ []
+yes false = 0 ∷ []
+
+-- ---- the table
+
+pub shown : List (List ℕ)
+shown =
+    -- accepted-right: a command comes in whole
+    says mi-20 new
+    -- command-stays: it is in Process
+    ∷ yes (isProcess (phaseAt (waiting .world) 0))
+    -- taken-first: a take gives ticket 1; a completion is accepted; the request is read, 20 bytes, and nothing before the take
+    ∷ says taking waiting
+    ∷ says (completing 4) worked-on
+    ∷ (length (says (read 0) worked-on) ∷ length (says (read 0) waiting) ∷ [])
+    -- stale-refused: ticket 7 with a command in Process, and with none
+    ∷ says (complete 0 (ticket 7) (replicate 4 0)) worked-on
+    ∷ says (complete 0 (ticket 7) (replicate 4 0)) new
+    -- never-stale: a packet of sixteen bytes leaves slot 0
+    ∷ says polling sending
+    ∷ yes (isPacketOf (phaseAt (sending .world) 0) (phaseAt (step polling (sending .world) .world) 0) (step polling (sending .world) .event))
+    -- ticket-rule: ticket 1 after a second command came in
+    ∷ says (completing 4) replaced
+    ∷ (replaced .log 0 .entries ∷ [])
+    -- answer-arrives, under the flag: the completion is accepted and waits; a poll is not counted; after Resume the response goes out whole,
+    -- with one poll counted
+    ∷ says (completing 4) paused
+    ∷ yes (isAnswered (phaseAt (next (completing 4) paused .world) 0))
+    ∷ seen 0 (fate 0 (polling ∷ resume ∷ polling ∷ []) (next (completing 4) paused))
+    -- error-arrives: a response is fixed at the entry
+    ∷ says nmimt-3 new
+    ∷ (length (next nmimt-3 new .log 0 .response) ∷ [])
+    -- abort-idles: an Abort that acts on slot 0
+    ∷ yes (cuts 0 abort (sending .world))
+    -- flags-move: Pause sets the flag, Resume clears it
+    ∷ yes (pausedAt (paused .world) 0)
+    ∷ yes (pausedAt (next resume paused .world) 0)
+    -- refused-packet, refused-call, and 40 with stores of another length
+    ∷ says (receive (replicate 4 1)) new
+    ∷ says (take! 7) new
+    ∷ answer (step polling (begin 8 [] zeros) .event)
+    ∷ []
+
+pub premises : shown
+    ≡ (1 ∷ [])
+    ∷ (1 ∷ [])
+    ∷ (0 ∷ 1 ∷ [])
+    ∷ (0 ∷ [])
+    ∷ (20 ∷ 0 ∷ [])
+    ∷ (32 ∷ [])
+    ∷ (31 ∷ [])
+    ∷ (1 ∷ 16 ∷ [])
+    ∷ (1 ∷ [])
+    ∷ (32 ∷ [])
+    ∷ (2 ∷ [])
+    ∷ (0 ∷ [])
+    ∷ (1 ∷ [])
+    ∷ (1 ∷ 1 ∷ 12 ∷ [])
+    ∷ (1 ∷ [])
+    ∷ (12 ∷ [])
+    ∷ (1 ∷ [])
+    ∷ (1 ∷ [])
+    ∷ (0 ∷ [])
+    ∷ (10 ∷ [])
+    ∷ (30 ∷ [])
+    ∷ (40 ∷ [])
+    ∷ []
+unfolding shown step begin run next start fate readHeader joinRefusal cutPacket commandFault controlFault response withCheck checkRight crc32c reflect register steps stepCrc
+premises = refl
