@@ -9,12 +9,13 @@ finish a message of 66 packets or find a slot in the state that a primitive has 
 that a later version of the endpoint gives a meaning (opcode 4, MI opcode 01h, Pause and Resume
 with CSI 1, reserved bits) are rare.
 """
+import argparse
 import random
-import sys
 
 import records
-from records import ABORT, ADMIN, FULL, GET_STATE, MI, PAUSE, PCIE, RESUME
 from reached import Run, SIZES
+from records import FULL
+from second.wire import ABORT, ADMIN, GET_STATE, MI, PAUSE, PCIE, RESUME
 
 SOURCES = (9, 9, 10, 254)
 LENGTHS = (8, 12, 19, 20, 23, 24, 64, 65, 71, 72, 127, 128, 129, 192, 250)
@@ -292,8 +293,16 @@ def generate(seed, count):
         generator.run.fault(fault)
     return b"".join(generator.log), generator.run
 
-if __name__ == "__main__":
-    written, run = generate(int(sys.argv[1]), int(sys.argv[2]))
-    with open(sys.argv[3], "wb") as out:
+def main():
+    parser = argparse.ArgumentParser(description="Writes a random log; the same SEED and N give the same one.")
+    parser.add_argument("seed", metavar="SEED", type=int)
+    parser.add_argument("count", metavar="N", type=int, help="how many records")
+    parser.add_argument("out", metavar="OUT", type=argparse.FileType("wb"), help="the log's file")
+    given = parser.parse_args()
+    written, run = generate(given.seed, given.count)
+    with given.out as out:
         out.write(written)
     print("\n".join(sorted(run.reached)))
+
+if __name__ == "__main__":
+    main()

@@ -3,18 +3,17 @@
 Names follow document 01. Each function takes what is usual by default, so that a log names only
 what matters to it. The endpoint's EID is 8; requests come from EID 9 under tag 1.
 """
-from second import sealed
+from second import log
+from second.wire import MI, sealed
 
-PAUSE, RESUME, ABORT, GET_STATE = range(4)
-MI, ADMIN, PCIE = 1, 2, 4
 FULL = 64                      # payload of every packet but a message's last
 
 def record(tag, body=b""):
     return bytes((tag,)) + len(body).to_bytes(2, "little") + body
 
 def packet(payload, som=1, eom=1, sequence=0, source=9, tag=1, version=1, destination=8, to=1):
-    return record(1, bytes((version, destination, source,
-                            som << 7 | eom << 6 | (sequence & 3) << 4 | to << 3 | tag)) + payload)
+    marks = som << 7 | eom << 6 | (sequence & 3) << 4 | to << 3 | tag
+    return record(log.PACKET, bytes((version, destination, source, marks)) + payload)
 
 def packets(message, first=0, source=9, tag=1):
     """The message cut into packets; the first carries the sequence number `first`."""
@@ -39,14 +38,14 @@ def damaged(message):
     """The message with its last byte changed, so that its check is wrong."""
     return message[:-1] + bytes((message[-1] ^ 1,))
 
-POLL = record(2)
-RESET = record(6)
+POLL = record(log.POLL)
+RESET = record(log.RESET)
 
 def timeout(slot=0):
-    return record(3, bytes((slot,)))
+    return record(log.TIMEOUT, bytes((slot,)))
 
 def take(slot=0):
-    return record(4, bytes((slot,)))
+    return record(log.TAKE, bytes((slot,)))
 
 def complete(body, slot=0):
-    return record(5, bytes((slot,)) + body)
+    return record(log.COMPLETE, bytes((slot,)) + body)

@@ -6,6 +6,8 @@
 The answers are the log program's own (./mi-log is run on the log). What the slots are is not in a log, so it is followed with the second
 program of tests/; a line says so if that program would have answered otherwise.
 """
+import argparse
+import io
 import pathlib
 import signal
 import subprocess
@@ -13,7 +15,8 @@ import sys
 
 ROOT = pathlib.Path(__file__).resolve().parent.parent
 sys.path.insert(0, str(ROOT / "tests"))
-import second  # noqa: E402
+from second.log import COMPLETE, PACKET, POLL, RESET, TAKE, TIMEOUT, Log, records  # noqa: E402
+from second.wire import ABORT, ADMIN, CONTROL, GET_STATE, MI, PAUSE, PCIE, RESUME, message_header, packet_fields  # noqa: E402
 
 REFUSALS = {
     10: "packet shorter than 5 bytes",
@@ -39,113 +42,113 @@ REFUSALS = {
     37: "the slot is not in Receive, or it is paused",
 }
 RECEIVED = {0: "taken in, more to come", 1: "command complete", 2: "control primitive answered"}
-PRIMITIVES = ("Pause", "Resume", "Abort", "Get State")
-KINDS = {1: "MI command", 2: "Admin command", 4: "PCIe command"}
+PRIMITIVES = {PAUSE: "Pause", RESUME: "Resume", ABORT: "Abort", GET_STATE: "Get State"}
+KINDS = {MI: "MI command", ADMIN: "Admin command", PCIE: "PCIe command"}
 
 
 def header(packet):
     """The four header bytes of a packet, in words."""
     if len(packet) < 4:
         return f"{len(packet)} bytes"
-    bits = packet[3]
-    marks = [name for name, bit in (("SOM", 7), ("EOM", 6), ("TO", 3)) if bits >> bit & 1]
-    return (f"{len(packet)} bytes, EID {packet[2]} to {packet[1]}, {' '.join(marks) or 'no marks'}, "
-            f"sequence {bits >> 4 & 3}, tag {bits & 7}")
+    fields = packet_fields(packet)
+    marks = [name for name, mark in (("SOM", fields.som), ("EOM", fields.eom), ("TO", fields.to)) if mark]
+    return (f"{len(packet)} bytes, EID {fields.source} to {fields.destination}, {' '.join(marks) or 'no marks'}, "
+            f"sequence {fields.sequence}, tag {fields.tag}")
 
 
 def message(payload):
     """What the first packet of a message carries."""
     if len(payload) < 4 or payload[0] != 0x84:
         return "no NVMe-MI message"
-    kind, slot = payload[1] >> 3 & 15, payload[1] & 1
-    extra = "".join(f", {name}" for name, bit in (("MEB", 0), ("CIAP", 1)) if payload[2] >> bit & 1)
-    if payload[1] & 0x80:
-        extra += ", ROR"
-    if kind == 0:
+    head = message_header(payload)
+    marks = (("MEB", head.meb), ("CIAP", head.ciap), ("ROR", head.ror))
+    extra = "".join(f", {name}" for name, mark in marks if mark)
+    if head.nmimt == CONTROL:
         opcode = payload[4] if len(payload) > 4 else 0
-        name = PRIMITIVES[opcode] if opcode < 4 else f"unknown primitive {opcode}"
-        return f"{name} for slot {slot}{extra}"
-    return f"{KINDS.get(kind, f'command of unknown kind {kind}')} for slot {slot}{extra}"
+        name = PRIMITIVES.get(opcode, f"unknown primitive {opcode}")
+    else:
+        name = KINDS.get(head.nmimt, f"command of unknown kind {head.nmimt}")
+    return f"{name} for slot {head.csi}{extra}"
 
 
 def describe(tag, body):
-    if tag == 1:
+    """A record in words."""
+    if tag is None:
+        return "a faulty record"
+    if tag == PACKET:
         words = "packet: " + header(body)
-        return words + ("; " + message(body[4:]) if len(body) > 4 and body[3] & 0x80 else "")
-    if tag == 5:
+        return words + ("; " + message(body[4:]) if len(body) > 4 and packet_fields(body).som else "")
+    if tag == COMPLETE:
         return f"complete slot {body[0]} with a body of {len(body) - 1} bytes"
-    return {2: "poll", 3: "timeout of slot {}", 4: "take slot {}", 6: "reset"}[tag].format(*body)
+    return {POLL: "poll", TIMEOUT: "timeout of slot {}", TAKE: "take slot {}", RESET: "reset"}[tag].format(*body)
 
 
 def in_words(tag, line):
-    if line == "bad":
-        return "bad: unknown tag, wrong length, or the log is cut"
-    number = int(line.split()[0])
-    if tag == 2 and number == 1:
-        packet = bytes.fromhex(line.split()[1])
-        return f"1, a packet: {header(packet)}; {message_out(packet)}"
+    """A printed line in words."""
+    answer, _, packet = line.partition(" ")
+    number = int(answer)
+    if packet:
+        sent = bytes.fromhex(packet)
+        return f"1, a packet: {header(sent)}; {message_out(sent)}"
     if number in REFUSALS:
         return f"{number}, {REFUSALS[number]}"
-    if tag == 1:
+    if tag == PACKET:
         return f"{number}, {RECEIVED[number]}"
-    return f"{number}, " + ("nothing to send" if tag == 2 else "done")
+    return f"{number}, " + ("nothing to send" if tag == POLL else "done")
 
 
 def message_out(packet):
+    """What a packet of ours carries."""
     payload = packet[4:]
-    if not packet[3] & 0x80:
+    if not packet_fields(packet).som:
         return "more of a response"
-    kind, slot = payload[1] >> 3 & 15, payload[1] & 1
-    if kind == 0:
-        if payload[4] == 0:
-            return f"control reply for slot {slot}, TAG {payload[5]:02x}h, CPSR {payload[6] | payload[7] << 8:04x}h"
-        return f"control error reply for slot {slot}, status {payload[4]:02x}h"
-    return f"response for slot {slot}, status {payload[4]:02x}h"
+    head, status = message_header(payload), payload[4]
+    if head.nmimt != CONTROL:
+        return f"response for slot {head.csi}, status {status:02x}h"
+    if status:
+        return f"control error reply for slot {head.csi}, status {status:02x}h"
+    cpsr = payload[6] | payload[7] << 8
+    return f"control reply for slot {head.csi}, TAG {payload[5]:02x}h, CPSR {cpsr:04x}h"
 
 
-def follow(model, tickets, tag, body):
-    """The second program's answer to a record, as a line."""
-    if tag == 1:
-        return str(model.receive(body))
-    if tag == 2:
-        number, packet = model.poll(68)
-        return f"1 {bytes(packet).hex()}" if number == 1 else str(number)
-    if tag == 3:
-        return str(model.timeout(body[0]))
-    if tag == 4:
-        number, ticket = model.take(body[0])
-        if number == 0:
-            tickets[body[0]] = ticket
-        return str(number)
-    if tag == 5:
-        return str(model.complete(body[0], tickets.get(body[0], second.Ticket(0)), body[1:]))
-    return str(model.reset())
+def slots(endpoint):
+    """What the slots are, in words."""
+    each = "; ".join(f"slot {slot} {endpoint.state(slot)}{', paused' if endpoint.paused >> slot & 1 else ''}, "
+                     f"ticket {endpoint.counts[slot]}" for slot in (0, 1))
+    return each + ("; a control reply waits" if endpoint.reply else "")
+
+
+def explain(log, lines):
+    """Prints the records of a log with the lines that the log program printed for them."""
+    second, read = Log(), list(records(io.BytesIO(log)))
+    for count, ((tag, body), line) in enumerate(zip(read, lines), 1):
+        if line == "bad":
+            print(f"{count:5}  bad: unknown tag, wrong length, or the log is cut")
+        else:
+            print(f"{count:5}  {describe(tag, body)}")
+            print(f"       -> {in_words(tag, line)}")
+        expected = second.line(tag, body)
+        if expected != line:
+            print(f"       !! the second program answers {expected}")
+        if tag is not None:
+            print(f"       {slots(second.endpoint)}")
+    if len(lines) != len(read):
+        print(f"!! {len(lines)} lines for {len(read)} records")
 
 
 def main():
-    if len(sys.argv) != 2:
-        sys.exit("usage: tools/explain.py LOG")
-    log = pathlib.Path(sys.argv[1]).read_bytes()
-    lines = subprocess.run([str(ROOT / "mi-log")], input=log, stdout=subprocess.PIPE, check=True).stdout.decode().split("\n")[:-1]
-    _, model = second.Endpoint.setup(8)
-    tickets, at = {}, 0
-    for count, line in enumerate(lines, 1):
-        tag = log[at]
-        if line == "bad":
-            print(f"{count:5}  {in_words(tag, line)}")
-            break
-        length = log[at + 1] | log[at + 2] << 8
-        body = log[at + 3:at + 3 + length]
-        at += 3 + length
-        print(f"{count:5}  {describe(tag, body)}")
-        print(f"       -> {in_words(tag, line)}")
-        expected = follow(model, tickets, tag, body)
-        if expected != line:
-            print(f"       !! the second program answers {expected}")
-        slots = "; ".join(
-            f"slot {i} {model.state(i)}{', paused' if model.paused >> i & 1 else ''}, ticket {model.counts[i]}" for i in (0, 1))
-        print(f"       {slots}{'; a control reply waits' if model.reply else ''}")
+    parser = argparse.ArgumentParser(description="Explains a log: each record with its answer in words, and what the slots then are.")
+    parser.add_argument("log", metavar="LOG", type=pathlib.Path)
+    path = parser.parse_args().log
+    try:
+        log = path.read_bytes()
+    except OSError as error:
+        parser.error(f"{path} can't be read: {error.strerror}")
+    ran = subprocess.run([str(ROOT / "mi-log")], input=log, stdout=subprocess.PIPE)
+    if ran.returncode:
+        sys.exit(f"explain.py: mi-log ended with status {ran.returncode}")
+    signal.signal(signal.SIGPIPE, signal.SIG_DFL)  # a reader of the explanation, such as head, may stop early
+    explain(log, ran.stdout.decode().splitlines())
 
 
-signal.signal(signal.SIGPIPE, signal.SIG_DFL)  # a reader such as head may stop early
 main()

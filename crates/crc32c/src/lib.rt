@@ -6,6 +6,9 @@ ghost use Rattle.crc32c.specs.Reflected.{bitStep, byteStep};
 // 1EDC6F41h with its bits in reverse order.
 const REVERSED: u32 = 0x82F6_3B78;
 
+// The register before the first byte.
+const START: u32 = 0xFFFF_FFFF;
+
 // One bit: the register moves down, and where a one left it, the polynomial is added.
 fn bit_step(x: u32) -> u32
     ensures { λ r. ⌜ r ≡ bitStep x ⌝ }
@@ -32,7 +35,7 @@ fn byte_step(x: u32, b: u8) -> u32
 pub fn crc32c(bytes: &[u8]) -> u32
     ensures { λ r. ⌜ r ≡ check (now (bytes .entry)) ⌝ }
 {
-    let mut x: u32 = 0xFFFF_FFFF;
+    let mut x = START;
     let mut i = 0;
     while i < bytes.len() {
         x = byte_step(x, bytes[i]);

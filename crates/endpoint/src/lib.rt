@@ -1,10 +1,10 @@
 // The endpoint's eight calls. Each is proved equal to its definition in `machine`, and its only premise is the invariant of the state, which
 // setup gives and every call keeps. A call gets the state by value and hands back the next one; the stores and the buffer are lent.
-pub use finishing::complete;
-pub use finishing::timeout;
-pub use polling::poll;
-pub use receiving::receive;
-pub use starting::reset;
-pub use starting::setup;
-pub use taking::request;
-pub use taking::take;
+pub use finish::complete;
+pub use finish::timeout;
+pub use poll::poll;
+pub use receive::receive;
+pub use start::reset;
+pub use start::setup;
+pub use take::request;
+pub use take::take;

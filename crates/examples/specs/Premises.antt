@@ -72,7 +72,7 @@ shown =
     ∷ yes (isPacketOf (phaseAt (sending .world) 0) (phaseAt (step polling (sending .world) .world) 0) (step polling (sending .world) .event))
     -- ticket-rule: ticket 1 after a second command came in
     ∷ says (completing 4) replaced
-    ∷ (replaced .log 0 .entries ∷ [])
+    ∷ (replaced .trace 0 .entries ∷ [])
     -- answer-arrives, under the flag: the completion is accepted and waits; a poll is not counted; after Resume the response goes out whole,
     -- with one poll counted
     ∷ says (completing 4) paused
@@ -80,7 +80,7 @@ shown =
     ∷ seen 0 (fate 0 (polling ∷ resume ∷ polling ∷ []) (next (completing 4) paused))
     -- error-arrives: a response is fixed at the entry
     ∷ says nmimt-3 new
-    ∷ (length (next nmimt-3 new .log 0 .response) ∷ [])
+    ∷ (length (next nmimt-3 new .trace 0 .response) ∷ [])
     -- abort-idles: an Abort that acts on slot 0
     ∷ yes (cuts 0 abort (sending .world))
     -- flags-move: Pause sets the flag, Resume clears it

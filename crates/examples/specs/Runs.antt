@@ -1,10 +1,10 @@
 -- The premises of demand 3 can be met, and its bound is tight, at 66 packets left and at one: closed runs, by computation.
 -- Assumes nothing.
-use Prim.Native.Nat.{ℕ, zero, suc, _+_, _*_, _≤_}
+use Prim.Native.Nat.{ℕ, zero, suc}
 use mathlib.Core.Path.{_≡_, refl}
 use mathlib.Core.Bool.{true}
 use mathlib.Core.List.{List, [], _∷_, _++_}
-use lib.ListN.{length, take, replicate}
+use lib.ListN.{length, replicate}
 use Rattle.crc32c.specs.Crc32c.{crc32c, reflect, register, steps, step}
 use Rattle.mctp.specs.Header.{readHeader}
 use Rattle.mctp.specs.Cut.{packet as cutPacket}
@@ -39,8 +39,8 @@ times (suc n) cs = cs ++ times n cs
 
 abbrev pub seen : ℕ → Fate → List ℕ
 seen i cut = 0 ∷ []
-seen i (delivered h) = 1 ∷ h .counted ∷ length (h .log i .payloads) ∷ []
-seen i (open! h) = 2 ∷ h .counted ∷ length (h .log i .payloads) ∷ []
+seen i (delivered h) = 1 ∷ h .counted ∷ length (h .trace i .payloads) ∷ []
+seen i (open! h) = 2 ∷ h .counted ∷ length (h .trace i .payloads) ∷ []
 
 abbrev pub zeros : List ℕ
 zeros = replicate 4224 0

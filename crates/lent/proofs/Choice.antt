@@ -1,7 +1,7 @@
 -- Laws of the choice: what holds of both answers holds of the choice; a choice that is known not to be its first answer is its second.
 -- Assumes nothing.
 use Prim.Native.Nat.{ℕ}
-use mathlib.Core.Path.{_≡_, refl, _∙_}
+use mathlib.Core.Path.{_≡_, refl}
 use mathlib.Core.Bool.{Bool, true, false, _&&_, _||_}
 use native.Mathlib.Omega.{arith}
 use Rattle.lent.specs.Choice.{if_then_else_}
@@ -24,11 +24,12 @@ pub or-right : (a b : Bool) → (a || b) ≡ false → b ≡ false
 or-right true b e = cc
 or-right false b e = e
 
+-- two constructors of a type differ: of an equation between them `cc` makes 0 ≡ 1
+pub differ : {A : Type 0} → _≡_ {A = ℕ} 0 1 → A
+differ e = absurd (omega (arith, e))
+
 pub false-true : {A : Type 0} → false ≡ true → A
-false-true e = absurd (omega (arith, zero-one e))
-  where
-    zero-one : false ≡ true → _≡_ {A = ℕ} 0 1
-    zero-one e = cc
+false-true e = differ cc
 
 pub and-both : (a b : Bool) → (a && b) ≡ true → (a ≡ true) × (b ≡ true)
 and-both true b e = (refl, e)

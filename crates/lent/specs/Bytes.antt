@@ -1,7 +1,7 @@
 -- Lists of bytes: one byte, one bit, two-byte fields, and bytes put into a store that is lent (document 01's own term: the caller
 -- owns the store, and a call may use it until it returns).
 -- Assumes nothing.
-use Prim.Native.Nat.{ℕ, _+_, _*_, _/_, _%_, _^_}
+use Prim.Native.Nat.{ℕ, _+_, _/_, _%_, _^_}
 use mathlib.Core.Bool.{Bool}
 use mathlib.Core.List.{List, [], _∷_, _++_}
 use lib.Dec.{eqb}

@@ -6,15 +6,14 @@ use mathlib.Core.List.{List, _++_}
 use native.Mathlib.Omega.{arith}
 use lib.Dec.{ltb}
 use lib.ListN.{length, drop, length-append, length-drop}
-use Rattle.lent.specs.Choice.{if_then_else_}
 use Rattle.lent.proofs.Choice.{if-ind}
 use Rattle.machine.specs.State.{World}
 use Rattle.machine.specs.Wire.{wrongStores, packet-room}
 use Rattle.machine.specs.Poll.{Polled, polled, controlPacket, commandPacket, polledBy, ready, replyFirst, sentControl, sentCommand}
 use Rattle.machine.specs.declared.PollAnswer.{PollAnswer}
-use Rattle.machine.specs.declared.PollAnswer.the-variants.{Refused, Nothing as Silent, Packet}
 use Rattle.machine.specs.declared.Ready.{Ready}
 use Rattle.machine.specs.declared.Ready.the-variants.{Nothing, From}
+use Rattle.machine.specs.declared.PollAnswer.the-variants.{Refused, Nothing as Silent, Packet}
 
 -- a packet that is handed out fits the buffer
 abbrev Fits : ℕ → List ℕ → PollAnswer → Type 0

@@ -1,6 +1,6 @@
 -- What a record's function promises, from its line, its session and the invariant.
 -- Assumes nothing.
-use Prim.Native.Nat.{ℕ, _≤_}
+use Prim.Native.Nat.{ℕ}
 use mathlib.Core.Path.{_≡_, refl}
 use mathlib.Core.List.{List}
 use lib.Dec.{eqb}
@@ -9,7 +9,7 @@ use Rattle.lent.proofs.Choice.{if-ind}
 use Rattle.machine.specs.Valid.{Valid}
 use Rattle.machine.specs.declared.TakeAnswer.{TakeAnswer}
 use Rattle.machine.specs.declared.TakeAnswer.the-variants.{Refused, Given}
-use Rattle.records.proofs.Laws.{Written}
+use Rattle.log_records.proofs.Laws.{Written}
 use Rattle.log.specs.Log.{ticketKept, recordedTo, Told}
 use Rattle.log.specs.declared.Session.{Session}
 

@@ -5,10 +5,10 @@ use mathlib.Core.Path.{_≡_, refl, ap, sym, _∙_}
 use mathlib.Core.List.{List, [], _∷_, _++_}
 use native.Mathlib.Omega.{arith}
 use lib.ListN.{length, take, drop, length-drop}
-use Rattle.records.specs.Records.{headed}
-use Rattle.records.specs.declared.Head.{Head}
-use Rattle.records.specs.declared.Head.the-variants.{Bad, More, Record}
-use Rattle.records.proofs.Heads.{Whole, whole}
+use Rattle.log_records.specs.Records.{headed}
+use Rattle.log_records.specs.declared.Head.{Head}
+use Rattle.log_records.specs.declared.Head.the-variants.{Bad, More, Record}
+use Rattle.log_records.proofs.Heads.{Whole, whole}
 use Rattle.log.specs.Log.{Recorded, recorded}
 use Rattle.log.specs.Whole.{Printing, byHead, printedIn, owed}
 use Rattle.log.specs.declared.Session.{Session}

@@ -7,20 +7,20 @@ use lib.Dec.{eqb}
 use lib.ListN.{length, take, drop, replicate}
 use Rattle.lent.specs.Bytes.{byteAt, put}
 use Rattle.lent.specs.Choice.{if_then_else_}
-use Rattle.records.specs.Records.{numberLine, packetLine, line-room}
+use Rattle.log_records.specs.Records.{numberLine, packetLine, line-room}
 use Rattle.machine.specs.State.{World, world, Outcome, ticket}
 use Rattle.machine.specs.Receive.{received}
 use Rattle.machine.specs.Finish.{taken, takeSays, completed, timedOut, wasReset, wasSetUp}
 use Rattle.machine.specs.Poll.{Polled, pollSays, polled}
 use Rattle.machine.specs.Wire.{packet-room}
 use Rattle.machine.specs.Valid.{Valid}
-use Rattle.machine.specs.declared.Endpoint.{Endpoint}
 use Rattle.machine.specs.declared.Ticket.{Ticket}
+use Rattle.machine.specs.declared.Endpoint.{Endpoint}
 use Rattle.machine.specs.declared.Done.{Done}
 use Rattle.machine.specs.declared.TakeAnswer.{TakeAnswer}
-use Rattle.machine.specs.declared.TakeAnswer.the-variants.{Refused as TakeRefused, Given}
 use Rattle.machine.specs.declared.TakeDone.{TakeDone}
 use Rattle.machine.specs.declared.PollAnswer.{PollAnswer}
+use Rattle.machine.specs.declared.TakeAnswer.the-variants.{Refused as TakeRefused, Given}
 use Rattle.log.specs.declared.Session.{Session}
 use Rattle.log.specs.declared.Answer.{Answer}
 
@@ -43,8 +43,8 @@ abbrev pub withEndpoint : Session → Endpoint → Session
 withEndpoint s e = session e (s .ticket0) (s .ticket1)
 
 -- EID 8, and no ticket taken
-abbrev pub begun : Session
-begun = session (wasSetUp 8 .endpoint) (ticket 0) (ticket 0)
+abbrev pub atStart : Session
+atStart = session (wasSetUp 8 .endpoint) (ticket 0) (ticket 0)
 
 -- any ticket for a slot above 1: it is refused with 30
 abbrev pub ticketOf : Session → ℕ → Ticket

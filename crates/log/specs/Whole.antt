@@ -9,10 +9,10 @@ use Rattle.machine.specs.Receive.{received}
 use Rattle.machine.specs.Poll.{polled}
 use Rattle.machine.specs.Finish.{timedOut, wasSetUp}
 use Rattle.machine.specs.Wire.{store-size}
-use Rattle.records.specs.Records.{head-size, headed, newline, numberLine}
-use Rattle.records.specs.declared.Head.{Head}
-use Rattle.records.specs.declared.Head.the-variants.{Bad, More, Record}
-use Rattle.log.specs.Log.{begun, Recorded, recorded}
+use Rattle.log_records.specs.Records.{head-size, headed, newline, numberLine}
+use Rattle.log_records.specs.declared.Head.{Head}
+use Rattle.log_records.specs.declared.Head.the-variants.{Bad, More, Record}
+use Rattle.log.specs.Log.{atStart, Recorded, recorded}
 use Rattle.log.specs.declared.Session.{Session}
 
 -- `bad` and a newline
@@ -53,7 +53,7 @@ owed s a b input = printedIn (length input) s a b input
 -- THE LOG PROGRAM
 unfoldable pub logged : List ℕ → List ℕ
 unfolding owed
-logged input = owed begun (replicate store-size 0) (replicate store-size 0) input
+logged input = owed atStart (replicate store-size 0) (replicate store-size 0) input
 
 -- the document's whole case: 13, 0, 37
 pub whole-case : logged (0x01 ∷ 0x05 ∷ 0x00 ∷ 0x01 ∷ 0x09 ∷ 0x10 ∷ 0xC8 ∷ 0x84 ∷ 0x02 ∷ 0x00 ∷ 0x00 ∷ 0x03 ∷ 0x01 ∷ 0x00 ∷ 0x00 ∷ [])

@@ -7,20 +7,20 @@ ghost use lib.ListN.{length};
 ghost use Rattle.lent.specs.Bytes.{put as Bytes·put};
 ghost use Rattle.machine.specs.Finish.{takeSays};
 ghost use Rattle.machine.specs.Valid.{Valid};
+ghost use Rattle.machine.specs.Wire.{packet-room};
 ghost use Rattle.machine.specs.declared.PollAnswer.{PollAnswer};
-ghost use Rattle.records.specs.Records.{line-room, isRecord};
-ghost use Rattle.log.specs.Log.{pollLine, withEndpoint, begun, ticketOf, withTicket, ticketKept, byDone, recorded, packetRecorded, pollRecorded, timeoutRecorded, takeRecorded, completeRecorded, resetRecorded, Told};
+ghost use Rattle.log_records.specs.Records.{line-room, isRecord};
+ghost use Rattle.log.specs.Log.{pollLine, withEndpoint, atStart, ticketOf, withTicket, ticketKept, byDone, recorded, packetRecorded, pollRecorded, timeoutRecorded, takeRecorded, completeRecorded, resetRecorded, Told};
+use log_records::number_line;
+use log_records::packet_line;
+use log_records::wide;
 use machine::Done;
 use machine::Endpoint;
 use machine::PollAnswer;
 use machine::TakeAnswer;
 use machine::Ticket;
-use records::number_line;
-use records::packet_line;
-use records::wide;
-
-// A buffer that takes every packet.
-const PACKET_ROOM: usize = 68;
+use machine::answers;
+use machine::sizes::PACKET_ROOM;
 
 // The log program's endpoint.
 const EID: u8 = 8;
@@ -89,20 +89,20 @@ fn take_number(answer: TakeAnswer) -> u8
 {
     match answer {
         TakeAnswer::Refused(n) => n,
-        TakeAnswer::Given(_) => 0,
+        TakeAnswer::Given(_) => answers::DONE,
     }
 }
 
 // The line of a poll, and its length.
 fn poll_line(line: &mut [u8], buffer: &[u8], answer: PollAnswer) -> usize
-    requires { ⌜ (line-room ≤ length (now line)) × (length (now buffer) ≤ 68) ⌝ }
+    requires { ⌜ (line-room ≤ length (now line)) × (length (now buffer) ≤ packet-room) ⌝ }
     requires { ⌜ ((n : ℕ) → answer ≡ PollAnswer.Packet n → n ≤ length (now buffer)) ⌝ }
     ensures { λ r. ⌜ (r ≡ length (pollLine (now (buffer .entry)) answer)) × (r ≤ line-room) ⌝ }
     ensures { λ _. ⌜ now (line .exit) ≡ Bytes·put (now (line .entry)) 0 (pollLine (now (buffer .entry)) answer) ⌝ }
 {
     match answer {
         PollAnswer::Refused(n) => number_line(line, n),
-        PollAnswer::Nothing => number_line(line, 0),
+        PollAnswer::Nothing => number_line(line, answers::NOTHING_TO_SEND),
         PollAnswer::Packet(n) => packet_line(line, &buffer[..n]),
     }
 }
@@ -201,7 +201,7 @@ fn reset_record(session: Session, line: &mut [u8]) -> Answer
 
 // The session at the start.
 pub fn begin() -> Session
-    ensures { λ r. ⌜ (r ≡ begun) × Valid (r .endpoint) ⌝ }
+    ensures { λ r. ⌜ (r ≡ atStart) × Valid (r .endpoint) ⌝ }
 {
     let done = endpoint::setup(EID);
     let endpoint = done.endpoint;
@@ -224,20 +224,20 @@ pub fn record(
     requires { ⌜ Valid (session .endpoint) × (isRecord tag (length (now body)) ≡ true) × (line-room ≤ length (now line)) ⌝ }
     ensures { λ r. ⌜ Told (recorded session (now (store0 .entry)) (now (store1 .entry)) tag (now (body .entry))) (now (line .entry)) (now (line .exit)) r (now (store0 .exit)) (now (store1 .exit)) ⌝ }
 {
-    if tag == 1 {
+    if tag == log_records::PACKET {
         return packet_record(session, store0, store1, body, line);
     }
-    if tag == 2 {
+    if tag == log_records::POLL {
         return poll_record(session, store0, store1, line);
     }
-    if tag == 6 {
+    if tag == log_records::RESET {
         return reset_record(session, line);
     }
     let slot = wide(body[0]);
-    if tag == 3 {
+    if tag == log_records::TIMEOUT {
         return timeout_record(session, slot, line);
     }
-    if tag == 4 {
+    if tag == log_records::TAKE {
         return take_record(session, slot, line);
     }
     complete_record(session, store0, store1, slot, &body[1..], line)

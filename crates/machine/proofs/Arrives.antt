@@ -10,22 +10,19 @@ use lib.ListN.{length}
 use Rattle.lent.specs.Choice.{if_then_else_}
 use Rattle.lent.proofs.Choice.{if-ind, false-true}
 use Rattle.nvme_mi.specs.Check.{withCheck}
-use Rattle.machine.specs.State.{World, slotAt, storeAt}
+use Rattle.machine.specs.State.{World, outgoing, slotAt, storeAt}
 use Rattle.machine.specs.Valid.{PhaseFacts}
-use Rattle.machine.specs.Calls.{Call, receive, take!, read, complete, poll, timeout, reset, Event, number, given, part-read, handed-out, Stepped, step}
-use Rattle.machine.specs.History.{Log, History, phaseAt, pausedAt, isTransmit, isPacketOf, isFor, requestWith, responseFor, fixedAtEntry, commanded, transmitted, counts, next, run, start, cuts, packetsLeft, lastPacketOut}
+use Rattle.machine.specs.Calls.{Call, receive, complete, poll, isPlain, Event, number, given, part-read, handed-out, Stepped, step}
+use Rattle.machine.specs.History.{Trace, History, phaseAt, pausedAt, isTransmit, isPacketOf, isFor, requestWith, responseFor, fixedAtEntry, commanded, transmitted, counts, next, run, start, cuts, packetsLeft, lastPacketOut}
 use Rattle.machine.specs.Demands.{cut, delivered, fate, Within, pollsFor, isProcess, AnswerArrives, ErrorArrives}
-use Rattle.machine.specs.declared.Ticket.{Ticket}
-use Rattle.machine.specs.declared.Response.{Response}
-use Rattle.machine.specs.declared.Phase.{Phase}
-use Rattle.machine.specs.declared.Phase.the-variants.{Idle, Receive, Process, Answered, Transmit}
+use Rattle.machine.specs.Types.{Ticket, Response, Outgoing, Phase, Idle, Receive, Process, Answered, Transmit}
 use Rattle.machine.proofs.Slots.{isEarly, facts-at}
 use Rattle.machine.proofs.Fits.{Asked, Steady, same, newly, released, handed-over, worked, fell, settled-late, There, waits, goes, answered-not}
 use Rattle.machine.proofs.Polling.{PollCase, still, replies, sends, poll-case}
-use Rattle.machine.proofs.Histories.{Good, isPlain, plain-carries, good-next, good-every}
+use Rattle.machine.proofs.Histories.{Good, by-kind, plain-carries, good-next, good-every}
 use Rattle.machine.proofs.Tickets.{accepted, completes}
 use Rattle.machine.proofs.Responses.{came-in-so, response-kept}
-use Rattle.machine.proofs.Delivery.{from-here, within-more}
+use Rattle.machine.proofs.Delivery.{mute, from-here, within-more}
 
 -- ---- while a response waits under its flag, no poll is counted and no packet of it goes
 
@@ -44,13 +41,10 @@ held-poll (suc zero) is buffer w e = rw e (paused-second (leb 68 (length buffer)
 held-poll (suc (suc n)) is buffer w e = absurd (omega arith)
 
 held : (i : ℕ) → i ≤ 1 → (c : Call) (w : World) → pausedAt w i ≡ true → counts c w ≡ false
-held i is (receive p) w e = refl
-held i is (take! j) w e = refl
-held i is (read j) w e = refl
-held i is (complete j t body) w e = refl
-held i is (poll buffer) w e = held-poll i is buffer w e
-held i is (timeout j) w e = refl
-held i is reset w e = refl
+held i is c w e = by-kind (λ (c : Call). counts c w ≡ false) plain-uncounted (λ buffer. held-poll i is buffer w e) refl c
+  where
+    plain-uncounted : (c : Call) → isPlain c ≡ true → counts c w ≡ false
+    plain-uncounted c plain = mute c w plain .not-counted
 
 counted-same : (i : ℕ) → i ≤ 1 → (c : Call) (h : History) → pausedAt (h .world) i ≡ true → next c h .counted ≡ h .counted
 unfolding next
@@ -77,9 +71,9 @@ flag-set i is h g r a = let f : PhaseFacts (slotAt (h .world .endpoint) i .pause
 on-steady : {C : Type 0} {p q : Phase} (r : Response) → Steady C p q → p ≡ Answered r → (C → ⊥) → There q
 on-steady r (same e) a n = waits r (e ∙ a)
 on-steady r (newly x y) a n = false-true (rw a at x)
-on-steady r (released x b d) a n = goes x d
+on-steady r (released x b d) a n = goes (outgoing x 0) d
 on-steady r (handed-over x b d) a n = answered-not (sym a ∙ b)
-on-steady r (worked x b y d e z) a n = answered-not (sym a ∙ d)
+on-steady r (worked x b y d e) a n = answered-not (sym a ∙ d)
 on-steady r (fell c e) a n = absurd (n c)
 
 plain-after : (i : ℕ) → i ≤ 1 → (c : Call) (h : History) → Good h → isPlain c ≡ true → cuts i c (h .world) ≡ false → (r : Response) → phaseAt (h .world) i ≡ Answered r
@@ -97,26 +91,22 @@ poll-after i is buffer h g r a = by (poll-case (h .world) buffer (g .sound))
 after : (i : ℕ) → i ≤ 1 → (c : Call) (h : History) → Good h → cuts i c (h .world) ≡ false → (r : Response) → phaseAt (h .world) i ≡ Answered r
     → There (phaseAt (next c h .world) i)
 unfolding next
-after i is (receive p) h g n r a = plain-after i is (receive p) h g refl n r a
-after i is (take! j) h g n r a = plain-after i is (take! j) h g refl n r a
-after i is (read j) h g n r a = plain-after i is (read j) h g refl n r a
-after i is (complete j t body) h g n r a = plain-after i is (complete j t body) h g refl n r a
-after i is (poll buffer) h g n r a = poll-after i is buffer h g r a
-after i is (timeout j) h g n r a = plain-after i is (timeout j) h g refl n r a
-after i is reset h g n r a = false-true (sym n)
+after i is c h g n r a =
+    by-kind (λ (c : Call). cuts i c (h .world) ≡ false → There (phaseAt (step c (h .world) .world) i)) (λ c plain m. plain-after i is c h g plain m r a)
+    (λ buffer _. poll-after i is buffer h g r a) (λ m. false-true (sym m)) c n
 
 -- ---- along the list
 
 abbrev Goes : ℕ → ℕ → List ℕ → List Call → Type 0
-Goes i most response ys = (h : History) → Good h → There (phaseAt (h .world) i) → h .log i .response ≡ response → h .counted + 264 ≤ most → Within most i response (fate i ys h)
+Goes i most response ys = (h : History) → Good h → There (phaseAt (h .world) i) → h .trace i .response ≡ response → h .counted + 264 ≤ most → Within most i response (fate i ys h)
 
 -- it is being sent
-sent-out : (i most : ℕ) (response : List ℕ) → i ≤ 1 → (ys : List Call) (h : History) → Good h → (r : Response) → phaseAt (h .world) i ≡ Transmit r
-    → h .log i .response ≡ response → h .counted + 264 ≤ most → Within most i response (fate i ys h)
+sent-out : (i most : ℕ) (response : List ℕ) → i ≤ 1 → (ys : List Call) (h : History) → Good h → (r : Outgoing) → phaseAt (h .world) i ≡ Transmit r
+    → h .trace i .response ≡ response → h .counted + 264 ≤ most → Within most i response (fate i ys h)
 sent-out i most response is ys h g r t k b =
     let d = from-here i is h g r t ys in
     within-more i (h .counted + pollsFor (packetsLeft i h)) most response (fate i ys h) (omega (arith, d .1))
-    (about (h .counted + pollsFor (packetsLeft i h)) (h .log i .response) k (d .2))
+    (about (h .counted + pollsFor (packetsLeft i h)) (h .trace i .response) k (d .2))
   where
     about : (n : ℕ) (x : List ℕ) → x ≡ response → Within n i x (fate i ys h) → Within n i response (fate i ys h)
     about n x e w = rw (sym e) w
@@ -141,13 +131,13 @@ goes-out i most response is (c ∷ cs) h g t k b = goes-on i most response is c 
 
 -- ---- a response that the history has is there, where its slot is in Process or behind it
 
-pub there-by : (i : ℕ) → i ≤ 1 → (h : History) → Good h → isEarly (phaseAt (h .world) i) ≡ false → (h .log i .response ≡ [] → ⊥) → There (phaseAt (h .world) i)
+pub there-by : (i : ℕ) → i ≤ 1 → (h : History) → Good h → isEarly (phaseAt (h .world) i) ≡ false → (h .trace i .response ≡ [] → ⊥) → There (phaseAt (h .world) i)
 there-by i is h g late some = by (phaseAt (h .world) i) refl late
   where
     by : (p : Phase) → phaseAt (h .world) i ≡ p → isEarly p ≡ false → There p
     by Idle t n = false-true (sym n)
     by (Receive a) t n = false-true (sym n)
-    by (Process r) t n = let k : Asked r (storeAt (h .world) i) (h .log i) = rw t at (g .fits i is .phase-fits) in absurd (some (k .unfixed))
+    by (Process r) t n = let k : Asked r (storeAt (h .world) i) (h .trace i) = rw t at (g .fits i is .phase-fits) in absurd (some (k .unfixed))
     by (Answered r) t n = waits r refl
     by (Transmit r) t n = goes r refl
 
@@ -173,7 +163,7 @@ late-steady {p = p} (newly x y) a n = process-early p x a
     process-early (Transmit r) x a = false-true x
 late-steady (released x b d) a n = rw d refl
 late-steady (handed-over x b d) a n = rw d refl
-late-steady (worked x b y d e z) a n = ap isEarly e ∙ settled-late b y
+late-steady (worked x b y d e) a n = ap isEarly e ∙ settled-late b y
 late-steady (fell c e) a n = absurd (n c)
 
 pub filled : (i : ℕ) (request body : List ℕ) → responseFor i request body ≡ [] → ⊥
@@ -196,8 +186,8 @@ answer-arrives eid store0 store1 a b xs ys i is t body e =
     let g = good-every eid store0 store1 a b xs in
     let g₁ = good-next (complete i t body) h g in
     let fixed = completes h i t body e in
-    goes-out i (h .counted + 264) (responseFor i (h .log i .request) body) is ys (next (complete i t body) h) g₁
-    (there-by i is (next (complete i t body) h) g₁ (complete-late h g i is t body e) (λ n. filled i (h .log i .request) body (sym fixed ∙ n)))
+    goes-out i (h .counted + 264) (responseFor i (h .trace i .request) body) is ys (next (complete i t body) h) g₁
+    (there-by i is (next (complete i t body) h) g₁ (complete-late h g i is t body e) (λ n. filled i (h .trace i .request) body (sym fixed ∙ n)))
     fixed (omega (arith, complete-uncounted h i t body))
 
 -- ---- an error at entry
@@ -206,20 +196,20 @@ receive-uncounted : (h : History) (p : List ℕ) → next (receive p) h .counted
 unfolding next
 receive-uncounted h p = omega arith
 
--- the log of a command that came in
-pub entry-log : (h : History) (i : ℕ) (p : List ℕ) → step (receive p) (h .world) .event ≡ number 1 → isFor i p (h .world) ≡ true
-    → (next (receive p) h .log i .response ≡ fixedAtEntry i (requestWith p (h .log i))) × (next (receive p) h .log i .entries ≡ h .log i .entries + 1)
+-- the trace of a command that came in
+pub entry-trace : (h : History) (i : ℕ) (p : List ℕ) → step (receive p) (h .world) .event ≡ number 1 → isFor i p (h .world) ≡ true
+    → (next (receive p) h .trace i .response ≡ fixedAtEntry i (requestWith p (h .trace i))) × (next (receive p) h .trace i .entries ≡ h .trace i .entries + 1)
 unfolding next
-entry-log h i p e k =
+entry-trace h i p e k =
     sent (phaseAt (h .world) i) (phaseAt (step (receive p) (h .world) .world) i) (step (receive p) (h .world) .event) _ (go (step (receive p) (h .world) .event) e)
   where
-    After : Log → Type 0
-    After l = (l .response ≡ fixedAtEntry i (requestWith p (h .log i))) × (l .entries ≡ h .log i .entries + 1)
+    After : Trace → Type 0
+    After l = (l .response ≡ fixedAtEntry i (requestWith p (h .trace i))) × (l .entries ≡ h .trace i .entries + 1)
 
-    go : (v : Event) → v ≡ number 1 → After (commanded i (receive p) (h .world) v (h .log i))
+    go : (v : Event) → v ≡ number 1 → After (commanded i (receive p) (h .world) v (h .trace i))
     go v q = rw (q, k) (refl, refl)
 
-    sent : (x y : Phase) (v : Event) (l : Log) → After l → After (transmitted x y v l)
+    sent : (x y : Phase) (v : Event) (l : Trace) → After l → After (transmitted x y v l)
     sent x y v l f = if-ind After (not (isTransmit x) && isTransmit y) (λ _. f) (λ _. if-ind After (isPacketOf x y v) (λ _. f) (λ _. f))
 
 pub error-arrives : ErrorArrives
@@ -227,7 +217,7 @@ error-arrives eid store0 store1 a b xs ys i is p e k some =
     let h = run xs (start eid store0 store1) in
     let g = good-every eid store0 store1 a b xs in
     let g₁ = good-next (receive p) h g in
-    let l = entry-log h i p e k in
-    goes-out i (h .counted + 264) (fixedAtEntry i (requestWith p (h .log i))) is ys (next (receive p) h) g₁
+    let l = entry-trace h i p e k in
+    goes-out i (h .counted + 264) (fixedAtEntry i (requestWith p (h .trace i))) is ys (next (receive p) h) g₁
     (there-by i is (next (receive p) h) g₁ (came-in-so i is (receive p) h g (l .1) .1) (λ n. some (sym (l .0) ∙ n)))
     (l .0) (omega (arith, receive-uncounted h p))

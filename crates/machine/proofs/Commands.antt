@@ -9,32 +9,25 @@ use lib.Dec.{eqb, ltb}
 use lib.ListN.{length, take}
 use borrow.Author.Tests.{eqb-true}
 use Rattle.lent.specs.Choice.{if_then_else_}
-use Rattle.lent.proofs.Choice.{if-ind, if-second, false-true}
+use Rattle.lent.proofs.Choice.{if-ind, if-second, false-true, differ}
 use Rattle.mctp.specs.Header.{payloadOf}
 use Rattle.nvme_mi.specs.Check.{checkRight}
-use Rattle.nvme_mi.specs.Message.{messageHeader, commandFault}
+use Rattle.nvme_mi.specs.Message.{messageHeader, commandFault, smallest}
 use Rattle.nvme_mi.specs.Response.{faultBody}
 use Rattle.nvme_mi.specs.declared.Fault.{Fault}
 use Rattle.nvme_mi.specs.declared.Fault.the-variants.{NoFault, Parameter, Failure}
 use Rattle.machine.specs.State.{World, Outcome, slotAt, storeAt, withSlot, ticket}
-use Rattle.machine.specs.Wire.{smallest, wrongStores}
+use Rattle.machine.specs.Wire.{wrongStores}
 use Rattle.machine.specs.Process.{respondedAtOnce, entered}
 use Rattle.machine.specs.Receive.{refused, refusedBusy, received}
 use Rattle.machine.specs.Finish.{isSlot, takenRequest, partOf, part, isBody, isPresent, completedRow, completedIn, completed}
 use Rattle.machine.specs.Poll.{afterPacket}
 use Rattle.machine.specs.Valid.{Sound}
-use Rattle.machine.specs.Calls.{Call, receive, take!, read, complete, poll, timeout, reset, number, part-read, Stepped, step}
-use Rattle.machine.specs.History.{Log, History, phaseAt, requestWith, sourceOf, messageTagOf, kindOf, fixedAtEntry, logAfter, next, run, start, cuts}
+use Rattle.machine.specs.Calls.{Call, read, complete, poll, isPlain, number, part-read, Stepped, step}
+use Rattle.machine.specs.History.{Trace, History, phaseAt, requestWith, sourceOf, messageTagOf, kindOf, fixedAtEntry, traceAfter, next, run, start, cuts}
 use Rattle.machine.specs.Demands.{isProcess}
 use Rattle.machine.specs.Commands.{RightCheck, Accepted, AcceptedRight, SameCommand, Stays, worked-on, answered, cut-off, CommandStays, TakenFirst, FixedOnce}
-use Rattle.machine.specs.declared.Ticket.{Ticket}
-use Rattle.machine.specs.declared.Taking.{Taking}
-use Rattle.machine.specs.declared.Taking.the-variants.{Untaken, Taken}
-use Rattle.machine.specs.declared.Request.{Request}
-use Rattle.machine.specs.declared.Response.{Response}
-use Rattle.machine.specs.declared.Phase.{Phase}
-use Rattle.machine.specs.declared.Phase.the-variants.{Idle, Receive, Process, Answered, Transmit}
-use Rattle.machine.specs.declared.Slot.{Slot}
+use Rattle.machine.specs.Types.{Ticket, Taking, Untaken, Taken, Request, Outgoing, Phase, Idle, Receive, Process, Answered, Transmit, Slot}
 use Rattle.machine.proofs.Slots.{isEarly, facts-at}
 use Rattle.machine.proofs.Receiving.{Joining, filled, grown, whole, Ground, in-table, of-no-slot, Break, in-sequence, in-size, in-total, Walk, walked, right-stores}
 use Rattle.machine.proofs.Keeps.{slot-most, Chosen, chosen-at, step-sound}
@@ -42,7 +35,7 @@ use Rattle.machine.proofs.Places.{Which, this, that, which, slot-that}
 use Rattle.machine.proofs.Fits.{takesOf, Asked, Fit, Entry, entered as came, stayed, Steady, same, newly, released, handed-over, worked, fell, There, settled-there, answered-not, some-response, atEntry, fixed-is}
 use Rattle.machine.proofs.Received.{Mid, for-this, in-process, whole-is, size-is, start-mid, ended-mid, w₂, command}
 use Rattle.machine.proofs.Polling.{PollCase, still, replies, sends, poll-case}
-use Rattle.machine.proofs.Histories.{Good, isPlain, plain-carries, kept-by, good-every}
+use Rattle.machine.proofs.Histories.{Good, by-kind, plain-carries, kept-by, good-every}
 use Rattle.machine.proofs.Tickets.{gave}
 use Rattle.machine.proofs.Responses.{Turned, kept, came-in, answered as answered-by, turned, came-in-so}
 use Rattle.machine.proofs.Arrives.{filled as response-filled}
@@ -56,10 +49,10 @@ check-right m n e =
     let k = if-second (ltb (length m) 4) (λ q. false-true q) e in
     record { enough = n; checked = eqb-true _ _ (k .1) }
 
-module _ (w₀ : World) (p : List ℕ) (log : ℕ → Log) (s₀ : Sound w₀)
-    (fits : (j : ℕ) → j ≤ 1 → Fit (slotAt (w₀ .endpoint) j) (storeAt w₀ j) (log j)) where
+module _ (w₀ : World) (p : List ℕ) (trace : ℕ → Trace) (s₀ : Sound w₀)
+    (fits : (j : ℕ) → j ≤ 1 → Fit (slotAt (w₀ .endpoint) j) (storeAt w₀ j) (trace j)) where
   abbrev Said : Outcome → Type 0
-  Said o = o .answer ≡ 1 → Accepted w₀ log p (o .world)
+  Said o = o .answer ≡ 1 → Accepted w₀ trace p (o .world)
 
   ground-not : {A : Type 0} (n : ℕ) → Ground w₀ p n → n ≡ 1 → A
   ground-not n (in-table _ lo hi) e = absurd (omega arith)
@@ -71,41 +64,41 @@ module _ (w₀ : World) (p : List ℕ) (log : ℕ → Log) (s₀ : Sound w₀)
   break-not _ (in-total _) e = absurd (omega arith)
 
   module _ (w : World) (i at : ℕ) (j : Joining w₀ p w i at) (lo : smallest ≤ at + length (payloadOf p)) (right : checkRight (whole w₀ p w i at) ≡ true)
-      (m : Mid w₀ p log s₀ fits w) where
+      (m : Mid w₀ p trace s₀ fits w) where
     abbrev request : List ℕ
-    request = requestWith p (log i)
+    request = requestWith p (trace i)
 
     text-is : whole w₀ p w i at ≡ request
-    text-is = whole-is w₀ p log s₀ fits w i at j lo m
+    text-is = whole-is w₀ p trace s₀ fits w i at j lo m
 
     long : at + length (payloadOf p) ≡ length request
-    long = size-is w₀ p log s₀ fits w i at j lo m
+    long = size-is w₀ p trace s₀ fits w i at j lo m
 
     -- no test at the entry failed: it waits in Process
     in-store : (f : Fault) → fixedAtEntry i request ≡ atEntry i request f → fixedAtEntry i request ≡ []
-        → (phaseAt (respondedAtOnce (w₂ w₀ p log s₀ fits w i at j lo m) i (command w₀ p log s₀ fits w i at j lo m) f) i
+        → (phaseAt (respondedAtOnce (w₂ w₀ p trace s₀ fits w i at j lo m) i (command w₀ p trace s₀ fits w i at j lo m) f) i
         ≡ Process (record { source = sourceOf p; tag = messageTagOf p; kind = kindOf request; length = length request; taking = Untaken }))
-        × (take (length request) (storeAt (respondedAtOnce (w₂ w₀ p log s₀ fits w i at j lo m) i (command w₀ p log s₀ fits w i at j lo m) f) i) ≡ request)
+        × (take (length request) (storeAt (respondedAtOnce (w₂ w₀ p trace s₀ fits w i at j lo m) i (command w₀ p trace s₀ fits w i at j lo m) f) i) ≡ request)
     in-store NoFault e none =
-        (in-process w₀ p log s₀ fits w i at j lo m ∙ rw (text-is, long) refl, rw (sym long) text-is)
+        (in-process w₀ p trace s₀ fits w i at j lo m ∙ rw (text-is, long) refl, rw (sym long) text-is)
     in-store (Parameter byte bit) e none = absurd (response-filled i request (faultBody (Parameter byte bit)) (sym e ∙ none))
     in-store (Failure status) e none = absurd (response-filled i request (faultBody (Failure status)) (sym e ∙ none))
 
     fault-is : fixedAtEntry i request ≡ atEntry i request (commandFault (messageHeader (whole w₀ p w i at)) (at + length (payloadOf p)))
     fault-is = fixed-is i request ∙ rw (text-is, long) refl
 
-    enters : Accepted w₀ log p (entered (filled w₀ p w i at) i (grown w₀ p at) (messageHeader (whole w₀ p w i at)))
+    enters : Accepted w₀ trace p (entered (filled w₀ p w i at) i (grown w₀ p at) (messageHeader (whole w₀ p w i at)))
     unfolding entered
     enters =
         record {
           slot = i;
           slot-is = j .slot-is;
-          for-it = for-this w₀ p log s₀ fits w i at m j;
+          for-it = for-this w₀ p trace s₀ fits w i at m j;
           right = check-right request (rw (sym long) lo) (rw (sym text-is) right);
           waits = λ none. unfold entered in (in-store (commandFault (messageHeader (whole w₀ p w i at)) (at + length (payloadOf p))) fault-is none);
         }
 
-  the-walk : Walk w₀ p (Mid w₀ p log s₀ fits) Said
+  the-walk : Walk w₀ p (Mid w₀ p trace s₀ fits) Said
   the-walk =
       record {
         sound = λ w m. m .sound;
@@ -114,15 +107,15 @@ module _ (w₀ : World) (p : List ℕ) (log : ℕ → Log) (s₀ : Sound w₀)
         busying = λ w i b _. unfold refusedBusy in (λ e. absurd (omega arith));
         dropping = λ w i n k g _. unfold refused in (λ e. break-not n k e);
         failing = λ w i at j _. unfold refused in (λ e. absurd (omega arith));
-        gaining = λ w i at j _ _ e. absurd (omega arith);
-        entering = λ w i at j lo right m _. enters w i at j lo right m;
+        gaining = λ w i at j _ _ _ e. absurd (omega arith);
+        entering = λ w i at j _ lo right m _. enters w i at j lo right m;
         controlling = λ w c _ e. absurd (omega arith);
       }
 
   received-right : Said (received w₀ p)
-  received-right = walked w₀ p (Mid w₀ p log s₀ fits) Said the-walk s₀ (λ _. start-mid w₀ p log s₀ fits) (ended-mid w₀ p log s₀ fits)
+  received-right = walked w₀ p (Mid w₀ p trace s₀ fits) Said the-walk s₀ (λ _. start-mid w₀ p trace s₀ fits) (ended-mid w₀ p trace s₀ fits)
 
-same-number : {m n : ℕ} → number m ≡ number n → m ≡ n
+pub same-number : {m n : ℕ} → number m ≡ number n → m ≡ n
 same-number e = cc
 
 pub accepted-right : AcceptedRight
@@ -130,7 +123,7 @@ unfolding step
 accepted-right eid store0 store1 a b xs p e =
     let h = run xs (start eid store0 store1) in
     let g = good-every eid store0 store1 a b xs in
-    received-right (h .world) p (h .log) (g .sound) (g .fits) (same-number e)
+    received-right (h .world) p (h .trace) (g .sound) (g .fits) (same-number e)
 
 -- ---- completing
 
@@ -163,12 +156,12 @@ completes-so w s i t body e =
     by : wrongStores w ≡ false → Says (completed w i t body)
     by right = unfold completed in (rw right (if-ind Says (not (isSlot i)) (λ _ q. absurd (omega arith)) (λ h. into (slot-most i h) (phaseAt w i) refl)))
 
--- what the log has of a command in Process
-asked-by : (s : Slot) (store : List ℕ) (l : Log) (r : Request) → Fit s store l → s .phase ≡ Process r → Asked r store l
+-- what the trace has of a command in Process
+asked-by : (s : Slot) (store : List ℕ) (l : Trace) (r : Request) → Fit s store l → s .phase ≡ Process r → Asked r store l
 asked-by s store l r f e = rw e at (f .phase-fits)
 
-asked-at : (h : History) → Good h → (i : ℕ) → i ≤ 1 → (r : Request) → phaseAt (h .world) i ≡ Process r → Asked r (storeAt (h .world) i) (h .log i)
-asked-at h g i is r p = asked-by (slotAt (h .world .endpoint) i) (storeAt (h .world) i) (h .log i) r (g .fits i is) p
+asked-at : (h : History) → Good h → (i : ℕ) → i ≤ 1 → (r : Request) → phaseAt (h .world) i ≡ Process r → Asked r (storeAt (h .world) i) (h .trace i)
+asked-at h g i is r p = asked-by (slotAt (h .world .endpoint) i) (storeAt (h .world) i) (h .trace i) r (g .fits i is) p
 
 pub fixed-once : FixedOnce
 fixed-once eid store0 store1 a b xs i t body e =
@@ -180,15 +173,15 @@ fixed-once eid store0 store1 a b xs i t body e =
 -- ---- taking and reading
 
 part-is : (h : History) → Good h → (i : ℕ) → i ≤ 1
-    → partOf (storeAt (h .world) i) (phaseAt (h .world) i) ≡ (if isProcess (phaseAt (h .world) i) && eqb (h .log i .takes) 1 then h .log i .request else [])
+    → partOf (storeAt (h .world) i) (phaseAt (h .world) i) ≡ (if isProcess (phaseAt (h .world) i) && eqb (h .trace i .takes) 1 then h .trace i .request else [])
 part-is h g i is = by (phaseAt (h .world) i) refl
   where
     row : (r : Request) (u : Taking) → r .taking ≡ u → phaseAt (h .world) i ≡ Process r
-        → partOf (storeAt (h .world) i) (Process r) ≡ (if eqb (h .log i .takes) 1 then h .log i .request else [])
+        → partOf (storeAt (h .world) i) (Process r) ≡ (if eqb (h .trace i .takes) 1 then h .trace i .request else [])
     row r Untaken u p = let k = asked-at h g i is r p in rw (u, k .takes-are ∙ ap takesOf u) refl
     row r Taken u p = let k = asked-at h g i is r p in rw (u, k .takes-are ∙ ap takesOf u) (k .held)
 
-    by : (p : Phase) → phaseAt (h .world) i ≡ p → partOf (storeAt (h .world) i) p ≡ (if isProcess p && eqb (h .log i .takes) 1 then h .log i .request else [])
+    by : (p : Phase) → phaseAt (h .world) i ≡ p → partOf (storeAt (h .world) i) p ≡ (if isProcess p && eqb (h .trace i .takes) 1 then h .trace i .request else [])
     by Idle p = refl
     by (Receive a) p = refl
     by (Process r) p = row r (r .taking) refl p
@@ -196,12 +189,12 @@ part-is h g i is = by (phaseAt (h .world) i) refl
     by (Transmit r) p = refl
 
 reads-so : (h : History) → Good h → (i : ℕ)
-    → step (read i) (h .world) .event ≡ part-read (if ltb i 2 && (isProcess (phaseAt (h .world) i) && eqb (h .log i .takes) 1) then h .log i .request else [])
+    → step (read i) (h .world) .event ≡ part-read (if ltb i 2 && (isProcess (phaseAt (h .world) i) && eqb (h .trace i .takes) 1) then h .trace i .request else [])
 unfolding step part
 reads-so h g i = rw (right-stores (h .world) (g .sound)) (ap part-read (by (isSlot i) refl))
   where
     by : (x : Bool) → isSlot i ≡ x → (if not x then [] else partOf (storeAt (h .world) i) (phaseAt (h .world) i))
-        ≡ (if x && (isProcess (phaseAt (h .world) i) && eqb (h .log i .takes) 1) then h .log i .request else [])
+        ≡ (if x && (isProcess (phaseAt (h .world) i) && eqb (h .trace i .takes) 1) then h .trace i .request else [])
     by true e = part-is h g i (slot-most i (rw e refl))
     by false e = refl
 
@@ -217,11 +210,8 @@ taken-first eid store0 store1 a b xs i =
 
 -- ---- a command that is worked on
 
-sending-not : {A : Type 0} {r : Request} {x : Response} → Process r ≡ Transmit x → A
-sending-not {r = r} {x = x} e = absurd (omega (arith, differ e))
-  where
-    differ : Process r ≡ Transmit x → _≡_ {A = ℕ} 0 1
-    differ e = cc
+sending-not : {A : Type 0} {r : Request} {x : Outgoing} → Process r ≡ Transmit x → A
+sending-not e = differ (cc e)
 
 module _ (h : History) (g : Good h) (i : ℕ) (is : i ≤ 1) (r : Request) (p : phaseAt (h .world) i ≡ Process r) where
   -- it is in Process still
@@ -229,16 +219,16 @@ module _ (h : History) (g : Good h) (i : ℕ) (is : i ≤ 1) (r : Request) (p : 
       → x .length ≡ r .length → SameCommand h c i r
   worked-same c x q a b d n = by (kept-by c h g i is .entry)
     where
-      before : Asked r (storeAt (h .world) i) (h .log i)
+      before : Asked r (storeAt (h .world) i) (h .trace i)
       before = asked-at h g i is r p
 
-      fit : Fit (slotAt (step c (h .world) .world .endpoint) i) (storeAt (step c (h .world) .world) i) (logAfter i c (h .world) (step c (h .world)) (h .log i))
+      fit : Fit (slotAt (step c (h .world) .world .endpoint) i) (storeAt (step c (h .world) .world) i) (traceAfter i c (h .world) (step c (h .world)) (h .trace i))
       fit = kept-by c h g i is .fit
 
-      now-asked : Asked x (storeAt (step c (h .world) .world) i) (logAfter i c (h .world) (step c (h .world)) (h .log i))
+      now-asked : Asked x (storeAt (step c (h .world) .world) i) (traceAfter i c (h .world) (step c (h .world)) (h .trace i))
       now-asked = asked-by _ _ _ x fit q
 
-      by : Entry (phaseAt (h .world) i) (phaseAt (step c (h .world) .world) i) (h .log i) (logAfter i c (h .world) (step c (h .world)) (h .log i)) → SameCommand h c i r
+      by : Entry (phaseAt (h .world) i) (phaseAt (step c (h .world) .world) i) (h .trace i) (traceAfter i c (h .world) (step c (h .world)) (h .trace i)) → SameCommand h c i r
       by (came early late e) = false-true (sym (ap isEarly p) ∙ early)
       by (stayed e f) =
           record {
@@ -259,10 +249,10 @@ module _ (h : History) (g : Good h) (i : ℕ) (is : i ≤ 1) (r : Request) (p : 
   completed-by : (c : Call) → There (phaseAt (step c (h .world) .world) i) → Stays h c i r
   completed-by c t = by (turned i c h)
     where
-      response : logAfter i c (h .world) (step c (h .world)) (h .log i) .response ≡ [] → ⊥
+      response : traceAfter i c (h .world) (step c (h .world)) (h .trace i) .response ≡ [] → ⊥
       response none = some-response _ _ _ (kept-by c h g i is .fit) (facts-at i is (step-sound c (h .world) (g .sound) .state)) t none
 
-      by : Turned i c h (step c (h .world) .event) (h .log i) (next c h .log i) → Stays h c i r
+      by : Turned i c h (step c (h .world) .event) (h .trace i) (next c h .trace i) → Stays h c i r
       by (kept a b) = absurd (response (unfold next in (a ∙ asked-at h g i is r p .unfixed)))
       by (came-in x e v k n m) = false-true (sym (ap isEarly p) ∙ came-in-so i is c h g n .0)
       by (answered-by t body e v n m) = answered t body e v
@@ -277,7 +267,7 @@ module _ (h : History) (g : Good h) (i : ℕ) (is : i ≤ 1) (r : Request) (p : 
     where
       same-request : {x y : Request} → Process x ≡ Process y → x ≡ y
       same-request e = cc
-  by-steady c n (worked x b y a d z) = completed-by c (settled-there b y d)
+  by-steady c n (worked x b y a d) = completed-by c (settled-there b y d)
   by-steady c n (fell k e) = cut-off k
 
   plain-stays : (c : Call) → isPlain c ≡ true → Stays h c i r
@@ -303,13 +293,7 @@ module _ (h : History) (g : Good h) (i : ℕ) (is : i ≤ 1) (r : Request) (p : 
               go (that e) = rw e (ap (λ (s : Slot). s .phase) (slot-that k (o .slot-is) (g .sound .state) (afterPacket (slotAt (h .world .endpoint) k) q)))
 
   stays : (c : Call) → Stays h c i r
-  stays (receive x) = plain-stays (receive x) refl
-  stays (take! j) = plain-stays (take! j) refl
-  stays (read j) = plain-stays (read j) refl
-  stays (complete j t body) = plain-stays (complete j t body) refl
-  stays (poll buffer) = poll-stays buffer
-  stays (timeout j) = plain-stays (timeout j) refl
-  stays reset = cut-off refl
+  stays = by-kind (λ (c : Call). Stays h c i r) plain-stays poll-stays (cut-off refl)
 
 pub command-stays : CommandStays
 command-stays eid store0 store1 a b xs c i is r p = stays (run xs (start eid store0 store1)) (good-every eid store0 store1 a b xs) i is r p c

@@ -1,16 +1,16 @@
 -- Demand 3: a measure that every counted poll lowers and no other call raises.
 -- Assumes nothing.
-use Prim.Native.Nat.{ℕ, zero, suc, _+_, _-_, _*_, _/_, _%_, _^_, _≤_, _<_}
+use Prim.Native.Nat.{ℕ, zero, suc, _+_, _-_, _*_, _/_, _≤_, _<_}
 use mathlib.Core.Path.{_≡_, refl, sym, ap, _∙_}
-use mathlib.Core.Bool.{Bool, true, false, _&&_, _||_}
-use mathlib.Core.List.{List, [], _∷_, _++_}
+use mathlib.Core.Bool.{Bool, true, false, _&&_}
+use mathlib.Core.List.{List, [], _∷_}
 use native.Mathlib.Omega.{arith}
 use lib.Dec.{eqb}
-use lib.ListN.{length, take}
+use lib.ListN.{length}
 use lib.Seq.{take-all}
 use borrow.Author.Tests.{eq-eqb, ne-eqb, eqb-true, eqb-false, lt-ltb}
 use Rattle.lent.specs.Choice.{if_then_else_}
-use Rattle.lent.proofs.Choice.{if-ind, false-true, both-and}
+use Rattle.lent.proofs.Choice.{if-ind, false-true, both-and, differ}
 use Rattle.mctp.specs.Cut.{packets}
 use Rattle.mctp.proofs.Laws.{packets-bounds, packets-most, packets-cover}
 use Rattle.machine.specs.State.{World, slotAt, storeAt, withSlot, withEndpoint, withPhase, replySent, packetSent, idled}
@@ -18,40 +18,32 @@ use Rattle.machine.specs.Wire.{unit}
 use Rattle.machine.specs.Finish.{taken}
 use Rattle.machine.specs.Poll.{otherSlot, sendingOr, hasBegun, begunOr, chosen, isLast, advanced, afterPacket, controlPacket, commandPacket}
 use Rattle.machine.specs.Valid.{phased, isBegun, Fits, PhaseFacts, Valid}
-use Rattle.machine.specs.Calls.{Call, receive, take!, read, complete, poll, timeout, reset, number, handed-out, Stepped, stepped, takeEvent, step}
-use Rattle.machine.specs.History.{Log, History, phaseAt, isTransmit, moved, isPacketOf, transmitted, logAfter, counts, one?, next, run, start, cuts, packetsLeft, lastPacketOut}
+use Rattle.machine.specs.Calls.{Call, receive, take!, read, complete, poll, timeout, reset, isPlain, number, handed-out, Stepped, stepped, takeEvent, step}
+use Rattle.machine.specs.History.{Trace, History, phaseAt, isTransmit, moved, isPacketOf, transmitted, traceAfter, counts, one?, next, run, start, cuts, packetsLeft, lastPacketOut}
 use Rattle.machine.specs.Demands.{Fate, cut, delivered, open!, fate, Within, pollsFor, isProcess, Demand3, AtMost264}
-use Rattle.machine.specs.declared.Request.{Request}
-use Rattle.machine.specs.declared.Response.{Response}
-use Rattle.machine.specs.declared.Phase.{Phase}
-use Rattle.machine.specs.declared.Phase.the-variants.{Idle, Receive, Process, Answered, Transmit}
-use Rattle.machine.specs.declared.Slot.{Slot}
-use Rattle.machine.specs.declared.Endpoint.{Endpoint}
-use Rattle.machine.specs.declared.TakeAnswer.{TakeAnswer}
+use Rattle.machine.specs.Types.{Outgoing, Phase, Idle, Receive, Process, Answered, Transmit, Slot, Endpoint, TakeAnswer, Ready, Nothing, From}
 use Rattle.machine.specs.declared.TakeAnswer.the-variants.{Refused, Given}
-use Rattle.machine.specs.declared.Ready.{Ready}
-use Rattle.machine.specs.declared.Ready.the-variants.{Nothing, From}
 use Rattle.machine.proofs.Slots.{isEarly, facts-at, slot-facts, other-most}
 use Rattle.machine.proofs.Keeps.{Chosen, chosen-at}
-use Rattle.machine.proofs.Places.{Which, this, that, which, other-differs, other-back, slot-this, slot-that}
+use Rattle.machine.proofs.Places.{frame-turn, frame-last, Which, this, that, which, other-differs, other-back, slot-this, slot-that}
 use Rattle.machine.proofs.Fits.{Going, Steady, same, newly, released, handed-over, worked, fell, settled-begun}
-use Rattle.machine.proofs.Polling.{PollCase, still, replies, sends, poll-case, moved-same, onward, onward-logs, onward-moves, sentLog, joined}
-use Rattle.machine.proofs.Histories.{Good, isPlain, plain-carries, good-next, good-every}
+use Rattle.machine.proofs.Polling.{PollCase, still, replies, sends, poll-case, moved-same, onward, onward-traces, onward-moves, sentTrace, joined}
+use Rattle.machine.proofs.Histories.{Good, by-kind, plain-carries, good-next, good-every}
 use Rattle.machine.proofs.Responses.{response-kept}
 
 -- ---- packets left, and what may go before
 
-abbrev leftOf : Response → ℕ
-leftOf r = packets unit (r .length) - r .sent
+abbrev leftOf : Outgoing → ℕ
+leftOf r = packets unit (r .response .length) - r .sent
 
 abbrev leftIn : Phase → ℕ
 leftIn = phased 0 (λ a. 0) (λ r. 0) (λ r. 0) leftOf
 
 -- a response in Transmit has 1 to 66 packets left
-left-bounds : (r : Response) → unit * r .sent < r .length → Fits r → (1 ≤ leftOf r) × (packets unit (r .length) ≤ 66)
+left-bounds : (r : Outgoing) → unit * r .sent < r .response .length → Fits (r .response) → (1 ≤ leftOf r) × (packets unit (r .response .length) ≤ 66)
 left-bounds r inside f =
-    let k : r .sent < packets unit (r .length) = packets-bounds unit (r .length) (r .sent) (omega arith) .1 inside in
-    (omega arith, packets-most unit (r .length) 66 (omega arith) (f .most))
+    let k : r .sent < packets unit (r .response .length) = packets-bounds unit (r .response .length) (r .sent) (omega arith) .1 inside in
+    (omega arith, packets-most unit (r .response .length) 66 (omega arith) (f .most))
 
 -- command packets of the other slot that may go before slot i's next one: i begun, none; the other begun, its packets left; none begun and
 -- the other's turn, 66
@@ -96,26 +88,14 @@ begun-not-turn {e} i is v h =
     let k : e .turn ≡ otherSlot (otherSlot i) = slot-facts (otherSlot i) (other-most i) (v .slots-valid) .begun-turn h in
     ne-eqb (e .turn) (otherSlot i) (λ q. other-differs i is (sym q ∙ k ∙ other-back i is))
 
-not-process : {A : Type 0} {r : Response} {x : Request} → Transmit r ≡ Process x → A
-not-process {r = r} {x = x} e = absurd (omega (arith, differ e))
-  where
-    differ : Transmit r ≡ Process x → _≡_ {A = ℕ} 0 1
-    differ e = cc
-
 -- a slot in Transmit stays there, unless it is cut off
-stays : {C : Type 0} {p q : Phase} (r : Response) → Steady C p q → p ≡ Transmit r → (C → ⊥) → q ≡ p
+stays : {C : Type 0} {p q : Phase} (r : Outgoing) → Steady C p q → p ≡ Transmit r → (C → ⊥) → q ≡ p
 stays r (same e) t n = e
 stays r (newly a b) t n = false-true (rw t at a)
-stays r (released x a b) t n = absurd (omega (arith, differ (sym t ∙ a)))
-  where
-    differ : {r x : Response} → Transmit r ≡ Answered x → _≡_ {A = ℕ} 0 1
-    differ e = cc
-stays r (handed-over x a b) t n = not-process (sym t ∙ a)
-stays r (worked x b y a d z) t n = not-process (sym t ∙ a)
+stays r (released x a b) t n = differ (cc (t, a))
+stays r (handed-over x a b) t n = differ (cc (t, a))
+stays r (worked x b y a d) t n = differ (cc (t, a))
 stays r (fell c e) t n = absurd (n c)
-
-waiting-unsent : (b : Bool) (p : Phase) → PhaseFacts b p → (r : Response) → p ≡ Answered r → r .sent ≡ 0
-waiting-unsent b p f r e = let k : PhaseFacts b (Answered r) = rw e at f in k .1
 
 -- the other slot
 module _ (e e′ : Endpoint) (i : ℕ) (is : i ≤ 1) (v : Valid e) (turn-is : e′ .turn ≡ e .turn) (mine : slotAt e′ i .phase ≡ slotAt e i .phase) where
@@ -128,23 +108,22 @@ module _ (e e′ : Endpoint) (i : ℕ) (is : i ≤ 1) (v : Valid e) (turn-is : e
   ahead-down : {C : Type 0} → Steady C (slotAt e (otherSlot i) .phase) (slotAt e′ (otherSlot i) .phase) → ahead i e′ ≤ ahead i e
   ahead-down (same q) = rw (mine, turn-is, q) (omega arith)
   ahead-down (newly a b) = calm-ahead b
-  ahead-down (released r a b) =
-      calm-ahead (rw (b, waiting-unsent (slotAt e (otherSlot i) .paused) (slotAt e (otherSlot i) .phase) (facts-at (otherSlot i) (other-most i) v) r a) refl)
+  ahead-down (released r a b) = calm-ahead (rw b refl)
   ahead-down (handed-over r a b) = calm-ahead (rw b refl)
-  ahead-down (worked r b x a d z) = calm-ahead (ap isBegun d ∙ settled-begun b x z)
+  ahead-down (worked r b x a d) = calm-ahead (ap isBegun d ∙ settled-begun b x)
   ahead-down (fell c q) = calm-ahead (rw q refl)
 
 -- what a call that is not a poll does
-plain-step : (i : ℕ) → i ≤ 1 → (c : Call) (h : History) → Good h → isPlain c ≡ true → cuts i c (h .world) ≡ false → (r : Response) → phaseAt (h .world) i ≡ Transmit r
+plain-step : (i : ℕ) → i ≤ 1 → (c : Call) (h : History) → Good h → isPlain c ≡ true → cuts i c (h .world) ≡ false → (r : Outgoing) → phaseAt (h .world) i ≡ Transmit r
     → (phaseAt (step c (h .world) .world) i ≡ Transmit r) × (measure i (step c (h .world) .world .endpoint) ≤ measure i (h .world .endpoint))
 plain-step i is c h g p n r t =
     let k = plain-carries c h g p in
     let e = h .world .endpoint in
     let e′ = step c (h .world) .world .endpoint in
     let mine : slotAt e′ i .phase ≡ slotAt e i .phase = stays r (k .carried i is .steady) t (λ b. false-true (sym n ∙ b)) in
-    let front : ahead i e′ ≤ ahead i e = ahead-down e e′ i is (g .sound .state) (k .turn-is) mine (k .carried (otherSlot i) (other-most i) .steady) in
+    let front : ahead i e′ ≤ ahead i e = ahead-down e e′ i is (g .sound .state) (frame-turn e e′ (k .frame)) mine (k .carried (otherSlot i) (other-most i) .steady) in
     let left : leftIn (slotAt e′ i .phase) ≡ leftIn (slotAt e i .phase) = ap leftIn mine in
-    let last : oneMore (e′ .«last_control») ≡ oneMore (e .«last_control») = ap oneMore (k .last-is) in
+    let last : oneMore (e′ .«last_control») ≡ oneMore (e .«last_control») = ap oneMore (frame-last e e′ (k .frame)) in
     (mine ∙ t, omega (arith, front, left, last))
 
 -- ---- which packet goes
@@ -154,12 +133,9 @@ begun-or-some k Idle other n e = n e
 begun-or-some k (Receive a) other n e = n e
 begun-or-some k (Process r) other n e = n e
 begun-or-some k (Answered r) other n e = n e
-begun-or-some k (Transmit r) other n e = if-ind (λ (x : Ready). x ≡ Nothing → ⊥) (hasBegun r) (λ _ q. omega (arith, from-nothing q)) (λ _ q. n q) e
-  where
-    from-nothing : From k r ≡ Nothing → _≡_ {A = ℕ} 0 1
-    from-nothing q = cc
+begun-or-some k (Transmit r) other n e = if-ind (λ (x : Ready). x ≡ Nothing → ⊥) (hasBegun r) (λ _ q. differ (cc q)) (λ _ q. n q) e
 
-sending-or-some : (k : ℕ) (p : Phase) (other : Ready) (r : Response) → p ≡ Transmit r → sendingOr k p other ≡ From k r
+sending-or-some : (k : ℕ) (p : Phase) (other : Ready) (r : Outgoing) → p ≡ Transmit r → sendingOr k p other ≡ From k r
 sending-or-some k p other r e = rw e refl
 
 sending-or-other : (k : ℕ) (p : Phase) (other : Ready) → (other ≡ Nothing → ⊥) → sendingOr k p other ≡ Nothing → ⊥
@@ -167,23 +143,17 @@ sending-or-other k Idle other n e = n e
 sending-or-other k (Receive a) other n e = n e
 sending-or-other k (Process r) other n e = n e
 sending-or-other k (Answered r) other n e = n e
-sending-or-other k (Transmit r) other n e = omega (arith, from-nothing e)
-  where
-    from-nothing : From k r ≡ Nothing → _≡_ {A = ℕ} 0 1
-    from-nothing q = cc
+sending-or-other k (Transmit r) other n e = differ (cc e)
 
-from-none : {k : ℕ} {r : Response} {x : Ready} → x ≡ From k r → x ≡ Nothing → ⊥
-from-none {k} {r} a b = omega (arith, zero-one (sym a ∙ b))
-  where
-    zero-one : From k r ≡ Nothing → _≡_ {A = ℕ} 0 1
-    zero-one q = cc
+from-none : {k : ℕ} {r : Outgoing} {x : Ready} → x ≡ From k r → x ≡ Nothing → ⊥
+from-none a b = differ (cc (a, b))
 
 abbrev byTurn : Endpoint → Ready
 byTurn e = sendingOr (e .turn) (slotAt e (e .turn) .phase) (sendingOr (otherSlot (e .turn)) (slotAt e (otherSlot (e .turn)) .phase) Nothing)
 
 -- a slot in Transmit: something is chosen
-turn-some : (e : Endpoint) → Valid e → (i : ℕ) → i ≤ 1 → (r : Response) → slotAt e i .phase ≡ Transmit r → byTurn e ≡ Nothing → ⊥
-turn-some e v i is r t = at (which (e .turn) i (v .turn-most) is)
+turn-some : (e : Endpoint) → Valid e → (i : ℕ) → i ≤ 1 → (r : Outgoing) → slotAt e i .phase ≡ Transmit r → byTurn e ≡ Nothing → ⊥
+turn-some e v i is r t = at (which (e .turn) i (v .numbers .turn-most) is)
   where
     at : Which (e .turn) i → byTurn e ≡ Nothing → ⊥
     at (this q) n = from-none (sending-or-some (e .turn) (slotAt e (e .turn) .phase) _ r (rw q at t)) n
@@ -191,7 +161,7 @@ turn-some e v i is r t = at (which (e .turn) i (v .turn-most) is)
         sending-or-other (e .turn) (slotAt e (e .turn) .phase) _
         (λ m. from-none (sending-or-some (otherSlot (e .turn)) (slotAt e (otherSlot (e .turn)) .phase) Nothing r (rw q at t)) m) n
 
-pub chosen-some : (e : Endpoint) → Valid e → (i : ℕ) → i ≤ 1 → (r : Response) → slotAt e i .phase ≡ Transmit r → chosen e ≡ Nothing → ⊥
+pub chosen-some : (e : Endpoint) → Valid e → (i : ℕ) → i ≤ 1 → (r : Outgoing) → slotAt e i .phase ≡ Transmit r → chosen e ≡ Nothing → ⊥
 unfolding chosen
 chosen-some e v i is r t n =
     begun-or-some 0 (slotAt e 0 .phase) _ (λ m. begun-or-some 1 (slotAt e 1 .phase) (byTurn e) (turn-some e v i is r t) m) n
@@ -204,23 +174,23 @@ begun-or-not k (Process r) other h = refl
 begun-or-not k (Answered r) other h = refl
 begun-or-not k (Transmit r) other h = rw h refl
 
-both-slots : (P : ℕ → Type 0) (i : ℕ) → i ≤ 1 → P i → P (otherSlot i) → P 0 × P 1
-both-slots P zero h a b = (a, b)
-both-slots P (suc zero) h a b = (b, a)
-both-slots P (suc (suc n)) h a b = absurd (omega arith)
+each-slot : (P : ℕ → Type 0) (i : ℕ) → i ≤ 1 → P i → P (otherSlot i) → P 0 × P 1
+each-slot P zero h a b = (a, b)
+each-slot P (suc zero) h a b = (b, a)
+each-slot P (suc (suc n)) h a b = absurd (omega arith)
 
-turn-decides : (e : Endpoint) → Valid e → (i : ℕ) → i ≤ 1 → (r q : Response) → slotAt e i .phase ≡ Transmit r → isBegun (slotAt e i .phase) ≡ false
+turn-decides : (e : Endpoint) → Valid e → (i : ℕ) → i ≤ 1 → (r q : Outgoing) → slotAt e i .phase ≡ Transmit r → isBegun (slotAt e i .phase) ≡ false
     → isBegun (slotAt e (otherSlot i) .phase) ≡ false → chosen e ≡ From (otherSlot i) q → eqb (e .turn) (otherSlot i) ≡ true
 unfolding chosen
-turn-decides e v i is r q t a b c = at (which i (e .turn) is (v .turn-most))
+turn-decides e v i is r q t a b c = at (which i (e .turn) is (v .numbers .turn-most))
   where
     none : (isBegun (slotAt e 0 .phase) ≡ false) × (isBegun (slotAt e 1 .phase) ≡ false)
-    none = both-slots (λ (k : ℕ). isBegun (slotAt e k .phase) ≡ false) i is a b
+    none = each-slot (λ (k : ℕ). isBegun (slotAt e k .phase) ≡ false) i is a b
 
     by-turn : byTurn e ≡ From (otherSlot i) q
     by-turn = sym (begun-or-not 0 (slotAt e 0 .phase) _ (none .0) ∙ begun-or-not 1 (slotAt e 1 .phase) (byTurn e) (none .1)) ∙ c
 
-    same-slot : {k m : ℕ} {x y : Response} → From k x ≡ From m y → k ≡ m
+    same-slot : {k m : ℕ} {x y : Outgoing} → From k x ≡ From m y → k ≡ m
     same-slot p = cc
 
     at : Which i (e .turn) → eqb (e .turn) (otherSlot i) ≡ true
@@ -233,14 +203,14 @@ turn-decides e v i is r q t a b c = at (which i (e .turn) is (v .turn-most))
 
 abbrev nextBy : Call → History → Stepped → History
 nextBy c h s =
-    record { world = s .world; log = λ i. logAfter i c (h .world) s (h .log i); counted = h .counted + one? (counts c (h .world)) }
+    record { world = s .world; trace = λ i. traceAfter i c (h .world) s (h .trace i); counted = h .counted + one? (counts c (h .world)) }
 
 abbrev lastBy : ℕ → Call → History → Stepped → Bool
 lastBy i c h s = isPacketOf (phaseAt (h .world) i) (phaseAt (s .world) i) (s .event) && eqb (packetsLeft i (nextBy c h s)) 0
 
 data Progress (i : ℕ) (c : Call) (h : History) (s : Stepped) : Type 0 where
-  finished : lastBy i c h s ≡ true → nextBy c h s .log i .payloads ≡ nextBy c h s .log i .response → Progress i c h s
-  goes : lastBy i c h s ≡ false → (r : Response) → phaseAt (s .world) i ≡ Transmit r
+  finished : lastBy i c h s ≡ true → nextBy c h s .trace i .payloads ≡ nextBy c h s .trace i .response → Progress i c h s
+  goes : lastBy i c h s ≡ false → (r : Outgoing) → phaseAt (s .world) i ≡ Transmit r
       → measure i (s .world .endpoint) + one? (counts c (h .world)) ≤ measure i (h .world .endpoint) → Progress i c h s
 
 and-no : (b : Bool) → b ≡ false → (c : Bool) → (b && c) ≡ false
@@ -250,7 +220,7 @@ no-and : (b c : Bool) → c ≡ false → (b && c) ≡ false
 no-and true c e = e
 no-and false c e = refl
 
-module _ (i : ℕ) (is : i ≤ 1) (buffer : List ℕ) (h : History) (g : Good h) (r : Response) (t : phaseAt (h .world) i ≡ Transmit r) where
+module _ (i : ℕ) (is : i ≤ 1) (buffer : List ℕ) (h : History) (g : Good h) (r : Outgoing) (t : phaseAt (h .world) i ≡ Transmit r) where
   abbrev e₀ : Endpoint
   e₀ = h .world .endpoint
 
@@ -260,7 +230,7 @@ module _ (i : ℕ) (is : i ≤ 1) (buffer : List ℕ) (h : History) (g : Good h)
   facts : PhaseFacts (slotAt e₀ i .paused) (Transmit r)
   facts = rw t at (facts-at i is v₀)
 
-  going : Going r (storeAt (h .world) i) (h .log i)
+  going : Going r (storeAt (h .world) i) (h .trace i)
   going = rw t at (g .fits i is .phase-fits)
 
   some-chosen : chosen e₀ ≡ Nothing → ⊥
@@ -292,14 +262,14 @@ module _ (i : ℕ) (is : i ≤ 1) (buffer : List ℕ) (h : History) (g : Good h)
   own-phase : phaseAt (own .world) i ≡ afterPacket (slotAt e₀ i) r .phase
   own-phase = ap (λ (s : Slot). s .phase) (slot-this i is v₀ (afterPacket (slotAt e₀ i) r))
 
-  abbrev sentLog₀ : Log
-  sentLog₀ = sentLog (h .world) i r (h .log i) going
+  abbrev sentTrace₀ : Trace
+  sentTrace₀ = sentTrace (h .world) i r (h .trace i) going
 
-  own-log : logAfter i (poll buffer) (h .world) own (h .log i) ≡ sentLog₀
-  own-log = go (phaseAt (h .world) i) (phaseAt (own .world) i) t own-phase
+  own-trace : traceAfter i (poll buffer) (h .world) own (h .trace i) ≡ sentTrace₀
+  own-trace = go (phaseAt (h .world) i) (phaseAt (own .world) i) t own-phase
     where
-      go : (p q : Phase) → p ≡ Transmit r → q ≡ afterPacket (slotAt e₀ i) r .phase → transmitted p q (handed-out (commandPacket (h .world) i r)) (h .log i) ≡ sentLog₀
-      go p q a b = rw (a, b) (onward-logs (commandPacket (h .world) i r) (h .log i) (onward (slotAt e₀ i) r))
+      go : (p q : Phase) → p ≡ Transmit r → q ≡ afterPacket (slotAt e₀ i) r .phase → transmitted p q (handed-out (commandPacket (h .world) i r)) (h .trace i) ≡ sentTrace₀
+      go p q a b = rw (a, b) (onward-traces (commandPacket (h .world) i r) (h .trace i) (onward (slotAt e₀ i) r))
 
   own-moves : moved (phaseAt (h .world) i) (phaseAt (own .world) i) ≡ true
   own-moves = go (phaseAt (h .world) i) (phaseAt (own .world) i) t own-phase
@@ -307,36 +277,36 @@ module _ (i : ℕ) (is : i ≤ 1) (buffer : List ℕ) (h : History) (g : Good h)
       go : (p q : Phase) → p ≡ Transmit r → q ≡ afterPacket (slotAt e₀ i) r .phase → moved p q ≡ true
       go p q a b = rw (a, b) (onward-moves (onward (slotAt e₀ i) r))
 
-  own-left : packetsLeft i (nextBy (poll buffer) h own) ≡ packets unit (r .length) - (r .sent + 1)
+  own-left : packetsLeft i (nextBy (poll buffer) h own) ≡ packets unit (r .response .length) - (r .sent + 1)
   own-left =
-      ap (λ (m : Log). (length (m .response) + 63) / 64 - m .packets) own-log
+      ap (λ (m : Trace). (length (m .response) + 63) / 64 - m .packets) own-trace
       ∙ rw (going .full .size, going .count) refl
 
   -- its last packet
   own-last : isLast r ≡ true → Progress i (poll buffer) h own
   own-last last =
-      let n : r .sent + 1 ≡ packets unit (r .length) = eqb-true (r .sent + 1) (packets unit (r .length)) last in
+      let n : r .sent + 1 ≡ packets unit (r .response .length) = eqb-true (r .sent + 1) (packets unit (r .response .length)) last in
       let none : packetsLeft i (nextBy (poll buffer) h own) ≡ 0 = own-left ∙ omega (arith, n) in
-      let reached : length (h .log i .response) ≤ unit * (r .sent + 1) = rw (going .full .size, n) (packets-cover unit (r .length) (omega arith)) in
+      let reached : length (h .trace i .response) ≤ unit * (r .sent + 1) = rw (going .full .size, n) (packets-cover unit (r .response .length) (omega arith)) in
       finished (both-and (moved (phaseAt (h .world) i) (phaseAt (own .world) i)) (eqb (packetsLeft i (nextBy (poll buffer) h own)) 0) own-moves (eq-eqb (packetsLeft i (nextBy (poll buffer) h own)) 0 none))
-      (ap (λ (m : Log). m .payloads) own-log ∙ joined (h .world) i r (h .log i) going ∙ take-all (unit * (r .sent + 1)) (h .log i .response) reached
-      ∙ sym (ap (λ (m : Log). m .response) own-log))
+      (ap (λ (m : Trace). m .payloads) own-trace ∙ joined (h .world) i r (h .trace i) going ∙ take-all (unit * (r .sent + 1)) (h .trace i .response) reached
+      ∙ sym (ap (λ (m : Trace). m .response) own-trace))
 
   -- another of its packets
   own-more : isLast r ≡ false → counts (poll buffer) (h .world) ≡ true → Progress i (poll buffer) h own
   own-more more counted =
-      let bound = packets-bounds unit (r .length) (r .sent) (omega arith) .1 (facts .0) in
-      let n : r .sent + 1 < packets unit (r .length) = omega (arith, bound, eqb-false (r .sent + 1) (packets unit (r .length)) more) in
+      let bound = packets-bounds unit (r .response .length) (r .sent) (omega arith) .1 (facts .0) in
+      let n : r .sent + 1 < packets unit (r .response .length) = omega (arith, bound, eqb-false (r .sent + 1) (packets unit (r .response .length)) more) in
       let some : eqb (packetsLeft i (nextBy (poll buffer) h own)) 0 ≡ false = ne-eqb (packetsLeft i (nextBy (poll buffer) h own)) 0 (λ z. omega (arith, sym own-left ∙ z)) in
       let phase : phaseAt (own .world) i ≡ Transmit (advanced r) = own-phase ∙ rw more refl in
-      let left : leftIn (phaseAt (own .world) i) ≡ packets unit (r .length) - (r .sent + 1) = ap leftIn phase in
+      let left : leftIn (phaseAt (own .world) i) ≡ packets unit (r .response .length) - (r .sent + 1) = ap leftIn phase in
       let begun : isBegun (phaseAt (own .world) i) ≡ true = ap isBegun phase ∙ lt-ltb 0 (r .sent + 1) (omega arith) in
       let front : ahead i (own .world .endpoint) ≡ 0 = rw begun refl in
-      let was : leftIn (phaseAt (h .world) i) ≡ packets unit (r .length) - r .sent = ap leftIn t in
+      let was : leftIn (phaseAt (h .world) i) ≡ packets unit (r .response .length) - r .sent = ap leftIn t in
       goes (no-and (moved (phaseAt (h .world) i) (phaseAt (own .world) i)) (eqb (packetsLeft i (nextBy (poll buffer) h own)) 0) some) (advanced r) phase (rw counted (omega (arith, left, front, was, n)))
 
   -- a packet of the other slot
-  module _ (q : Response) (c : chosen e₀ ≡ From (otherSlot i) q) where
+  module _ (q : Outgoing) (c : chosen e₀ ≡ From (otherSlot i) q) where
     abbrev o : ℕ
     o = otherSlot i
 
@@ -367,7 +337,7 @@ module _ (i : ℕ) (is : i ≤ 1) (buffer : List ℕ) (h : History) (g : Good h)
     their-facts : PhaseFacts (slotAt e₀ o .paused) (Transmit q)
     their-facts = rw (picked .sends) at (facts-at o os v₀)
 
-    bounds : (1 ≤ leftOf q) × (packets unit (q .length) ≤ 66)
+    bounds : (1 ≤ leftOf q) × (packets unit (q .response .length) ≤ 66)
     bounds = left-bounds q (their-facts .0) (their-facts .1)
 
     -- before, at least the packets that the other slot has left
@@ -403,11 +373,11 @@ module _ (i : ℕ) (is : i ≤ 1) (buffer : List ℕ) (h : History) (g : Good h)
       own-goes true e k = own-last e
       own-goes false e k = own-more e k
 
-      same-response : {x : Phase} {a b : Response} → x ≡ Transmit a → x ≡ Transmit b → b ≡ a
+      same-response : {x : Phase} {a b : Outgoing} → x ≡ Transmit a → x ≡ Transmit b → b ≡ a
       same-response p q = cc
 
       -- the packet is slot i's, or the other's
-      sent : (k : ℕ) (q : Response) → chosen e₀ ≡ From k q → counts (poll buffer) (h .world) ≡ true → Which i k
+      sent : (k : ℕ) (q : Outgoing) → chosen e₀ ≡ From k q → counts (poll buffer) (h .world) ≡ true → Which i k
           → Progress i (poll buffer) h
           (stepped (handed-out (commandPacket (h .world) k q)) (withEndpoint (h .world) (packetSent (withSlot e₀ k (afterPacket (slotAt e₀ k) q)) (otherSlot k))))
       sent k q c counted (this e) =
@@ -431,7 +401,7 @@ take-mute : (p q : Phase) (a : TakeAnswer) → isPacketOf p q (takeEvent a) ≡ 
 take-mute p q (Refused n) = refl
 take-mute p q (Given t) = refl
 
-mute : (c : Call) (w : World) → isPlain c ≡ true → Mute c w
+pub mute : (c : Call) (w : World) → isPlain c ≡ true → Mute c w
 unfolding step
 mute (receive p) w e = record { no-packet = λ a b. unfold step in refl; not-counted = refl }
 mute (take! i) w e = record { no-packet = λ a b. unfold step in (take-mute a b (taken (w .endpoint) i .answer)); not-counted = refl }
@@ -441,27 +411,23 @@ mute (poll buffer) w e = false-true e
 mute (timeout i) w e = record { no-packet = λ a b. unfold step in refl; not-counted = refl }
 mute reset w e = false-true e
 
-plain-progress : (i : ℕ) → i ≤ 1 → (c : Call) (h : History) → Good h → isPlain c ≡ true → cuts i c (h .world) ≡ false → (r : Response) → phaseAt (h .world) i ≡ Transmit r
+plain-progress : (i : ℕ) → i ≤ 1 → (c : Call) (h : History) → Good h → isPlain c ≡ true → cuts i c (h .world) ≡ false → (r : Outgoing) → phaseAt (h .world) i ≡ Transmit r
     → Progress i c h (step c (h .world))
 plain-progress i is c h g p n r t =
     let k = plain-step i is c h g p n r t in
     let m = mute c (h .world) p in
     goes (and-no _ (m .no-packet (phaseAt (h .world) i) (phaseAt (step c (h .world) .world) i)) _) r (k .0) (rw (m .not-counted) (omega (arith, k .1)))
 
-progress : (i : ℕ) → i ≤ 1 → (c : Call) (h : History) → Good h → cuts i c (h .world) ≡ false → (r : Response) → phaseAt (h .world) i ≡ Transmit r
+progress : (i : ℕ) → i ≤ 1 → (c : Call) (h : History) → Good h → cuts i c (h .world) ≡ false → (r : Outgoing) → phaseAt (h .world) i ≡ Transmit r
     → Progress i c h (step c (h .world))
-progress i is (receive p) h g n r t = plain-progress i is (receive p) h g refl n r t
-progress i is (take! j) h g n r t = plain-progress i is (take! j) h g refl n r t
-progress i is (read j) h g n r t = plain-progress i is (read j) h g refl n r t
-progress i is (complete j x body) h g n r t = plain-progress i is (complete j x body) h g refl n r t
-progress i is (poll buffer) h g n r t = poll-progress i is buffer h g r t
-progress i is (timeout j) h g n r t = plain-progress i is (timeout j) h g refl n r t
-progress i is reset h g n r t = false-true (sym n)
+progress i is c h g n r t =
+    by-kind (λ (c : Call). cuts i c (h .world) ≡ false → Progress i c h (step c (h .world))) (λ c plain m. plain-progress i is c h g plain m r t)
+    (λ buffer _. poll-progress i is buffer h g r t) (λ m. false-true (sym m)) c n
 
 -- ---- the list
 
 -- a slot in Transmit needs two polls more at least
-measure-least : (i : ℕ) → i ≤ 1 → (h : History) → Good h → (r : Response) → phaseAt (h .world) i ≡ Transmit r → 2 ≤ measure i (h .world .endpoint)
+measure-least : (i : ℕ) → i ≤ 1 → (h : History) → Good h → (r : Outgoing) → phaseAt (h .world) i ≡ Transmit r → 2 ≤ measure i (h .world .endpoint)
 measure-least i is h g r t =
     let f : PhaseFacts (slotAt (h .world .endpoint) i .paused) (Transmit r) = rw t at (facts-at i is (g .sound .state)) in
     omega (arith, left-bounds r (f .0) (f .1) .0, ap leftIn t)
@@ -476,15 +442,15 @@ one-most false = omega arith
 -- what is promised of the rest of the list, where the measure has fallen with the count
 abbrev Onwards : ℕ → ℕ → List ℕ → List Call → Type 0
 Onwards i most response ys =
-    (h : History) → Good h → (r : Response) → phaseAt (h .world) i ≡ Transmit r → h .log i .response ≡ response → h .counted + measure i (h .world .endpoint) ≤ most + 1
+    (h : History) → Good h → (r : Outgoing) → phaseAt (h .world) i ≡ Transmit r → h .trace i .response ≡ response → h .counted + measure i (h .world .endpoint) ≤ most + 1
     → Within most i response (fate i ys h)
 
 -- no call changes the response that is being sent
-sent-response : (i : ℕ) → i ≤ 1 → (c : Call) (h : History) → Good h → (r : Response) → phaseAt (h .world) i ≡ Transmit r → next c h .log i .response ≡ h .log i .response
+sent-response : (i : ℕ) → i ≤ 1 → (c : Call) (h : History) → Good h → (r : Outgoing) → phaseAt (h .world) i ≡ Transmit r → next c h .trace i .response ≡ h .trace i .response
 sent-response i is c h g r t = response-kept i is c h g (ap isEarly t) (ap isProcess t)
 
-within-turn : (i most : ℕ) (response : List ℕ) → i ≤ 1 → (c : Call) (cs : List Call) → Onwards i most response cs → (h : History) → Good h → (r : Response)
-    → phaseAt (h .world) i ≡ Transmit r → next c h .log i .response ≡ response → h .counted + measure i (h .world .endpoint) ≤ most + 1
+within-turn : (i most : ℕ) (response : List ℕ) → i ≤ 1 → (c : Call) (cs : List Call) → Onwards i most response cs → (h : History) → Good h → (r : Outgoing)
+    → phaseAt (h .world) i ≡ Transmit r → next c h .trace i .response ≡ response → h .counted + measure i (h .world .endpoint) ≤ most + 1
     → (x : Bool) → lastPacketOut i c h ≡ x → Progress i c h (step c (h .world)) → Within most i response (if x then delivered (next c h) else fate i cs (next c h))
 unfolding next
 within-turn i most response is c cs rest h g r t k b true e (finished l q) =
@@ -493,10 +459,10 @@ within-turn i most response is c cs rest h g r t k b true e (goes l r′ t′ m)
 within-turn i most response is c cs rest h g r t k b false e (finished l q) = false-true (sym e ∙ l)
 within-turn i most response is c cs rest h g r t k b false e (goes l r′ t′ m) = rest (next c h) (good-next c h g) r′ t′ k (omega (arith, m))
 
-pub within : (i most : ℕ) (response : List ℕ) → i ≤ 1 → (ys : List Call) → Onwards i most response ys
+pub onwards : (i most : ℕ) (response : List ℕ) → i ≤ 1 → (ys : List Call) → Onwards i most response ys
 unfolding fate
-within i most response is [] h g r t k b = omega (arith, measure-least i is h g r t)
-within i most response is (c ∷ cs) h g r t k b = by (within i most response is cs) (cuts i c (h .world)) refl
+onwards i most response is [] h g r t k b = omega (arith, measure-least i is h g r t)
+onwards i most response is (c ∷ cs) h g r t k b = by (onwards i most response is cs) (cuts i c (h .world)) refl
   where
     by : Onwards i most response cs → (x : Bool) → cuts i c (h .world) ≡ x
         → Within most i response (if x then cut else if lastPacketOut i c h then delivered (next c h) else fate i cs (next c h))
@@ -507,20 +473,20 @@ within i most response is (c ∷ cs) h g r t k b = by (within i most response is
 -- ---- DEMAND 3
 
 -- the history's packets left are the state's
-left-is : (i : ℕ) → i ≤ 1 → (h : History) → Good h → (r : Response) → phaseAt (h .world) i ≡ Transmit r → packetsLeft i h ≡ leftOf r
+left-is : (i : ℕ) → i ≤ 1 → (h : History) → Good h → (r : Outgoing) → phaseAt (h .world) i ≡ Transmit r → packetsLeft i h ≡ leftOf r
 left-is i is h g r t =
-    let k : Going r (storeAt (h .world) i) (h .log i) = rw t at (g .fits i is .phase-fits) in
+    let k : Going r (storeAt (h .world) i) (h .trace i) = rw t at (g .fits i is .phase-fits) in
     rw (k .full .size, k .count) refl
 
-pub sending-phase : (p : Phase) → isTransmit p ≡ true → (r : Response) × (p ≡ Transmit r)
+pub sending-phase : (p : Phase) → isTransmit p ≡ true → (r : Outgoing) × (p ≡ Transmit r)
 sending-phase Idle h = false-true h
 sending-phase (Receive a) h = false-true h
 sending-phase (Process r) h = false-true h
 sending-phase (Answered r) h = false-true h
 sending-phase (Transmit r) h = (r, refl)
 
-pub from-here : (i : ℕ) → i ≤ 1 → (h : History) → Good h → (r : Response) → phaseAt (h .world) i ≡ Transmit r → (ys : List Call)
-    → (1 ≤ packetsLeft i h) × (packetsLeft i h ≤ 66) × Within (h .counted + pollsFor (packetsLeft i h)) i (h .log i .response) (fate i ys h)
+pub from-here : (i : ℕ) → i ≤ 1 → (h : History) → Good h → (r : Outgoing) → phaseAt (h .world) i ≡ Transmit r → (ys : List Call)
+    → (1 ≤ packetsLeft i h) × (packetsLeft i h ≤ 66) × Within (h .counted + pollsFor (packetsLeft i h)) i (h .trace i .response) (fate i ys h)
 from-here i is h g r t ys =
     let v = g .sound .state in
     let f : PhaseFacts (slotAt (h .world .endpoint) i .paused) (Transmit r) = rw t at (facts-at i is v) in
@@ -532,7 +498,7 @@ from-here i is h g r t ys =
     (left-most (slotAt (h .world .endpoint) o .paused) (phaseAt (h .world) o) (facts-at o (other-most i) v)) in
     let first : oneMore (h .world .endpoint .«last_control») ≤ 1 =
     if-ind (λ (x : ℕ). x ≤ 1) (h .world .endpoint .«last_control») (λ _. omega arith) (λ _. omega arith) in
-    (omega (arith, k .0, n), omega (arith, k .1, n), within i (h .counted + pollsFor (packetsLeft i h)) (h .log i .response) is ys h g r t refl (omega (arith, most, first, n, ap leftIn t)))
+    (omega (arith, k .0, n), omega (arith, k .1, n), onwards i (h .counted + pollsFor (packetsLeft i h)) (h .trace i .response) is ys h g r t refl (omega (arith, most, first, n, ap leftIn t)))
 
 pub demand-3 : Demand3
 demand-3 eid store0 store1 a b xs ys i is t =
@@ -551,4 +517,4 @@ pub at-most-264 : AtMost264
 at-most-264 eid store0 store1 a b xs ys i is t =
     let h = run xs (start eid store0 store1) in
     let k = demand-3 eid store0 store1 a b xs ys i is t in
-    within-more i (h .counted + pollsFor (packetsLeft i h)) (h .counted + 264) (h .log i .response) (fate i ys h) (omega (arith, k .1)) (k .2)
+    within-more i (h .counted + pollsFor (packetsLeft i h)) (h .counted + 264) (h .trace i .response) (fate i ys h) (omega (arith, k .1)) (k .2)

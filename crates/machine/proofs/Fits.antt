@@ -1,9 +1,9 @@
--- How a slot, its store and the history's log of it fit together, and what one call may do to them.
+-- How a slot, its store and the history's trace of it fit together, and what one call may do to them.
 -- Assumes nothing.
-use Prim.Native.Nat.{ℕ, _+_, _-_, _*_, _/_, _%_, _^_, _≤_, _<_}
-use mathlib.Core.Path.{_≡_, refl, sym, ap, _∙_}
-use mathlib.Core.Bool.{Bool, true, false, not, _&&_, _||_}
-use mathlib.Core.List.{List, [], _∷_, _++_}
+use Prim.Native.Nat.{ℕ, _+_, _*_, _/_, _%_, _^_, _≤_}
+use mathlib.Core.Path.{_≡_, refl, ap}
+use mathlib.Core.Bool.{Bool, true, false, not, _&&_}
+use mathlib.Core.List.{List, [], _∷_}
 use native.Mathlib.Nat.{mod-lt, mod-eq-of-lt, zero-lt-suc}
 use native.Mathlib.Omega.{arith}
 use lib.Dec.{ltb}
@@ -11,25 +11,19 @@ use lib.ListN.{length, take}
 use borrow.Author.Tests.{ne-eqb}
 use Rattle.lent.specs.Choice.{if_then_else_}
 use Rattle.lent.specs.Bytes.{byteAt, isSet}
-use Rattle.lent.proofs.Choice.{false-true}
+use Rattle.lent.proofs.Choice.{false-true, differ}
 use Rattle.nvme_mi.specs.Message.{messageHeader, isKnown, commandFault}
 use Rattle.nvme_mi.specs.Response.{response, faultBody}
 use Rattle.nvme_mi.specs.declared.Fault.{Fault}
 use Rattle.nvme_mi.specs.declared.Fault.the-variants.{NoFault, Parameter, Failure}
-use Rattle.machine.specs.State.{World, settled}
+use Rattle.machine.specs.State.{World, outgoing, settled}
 use Rattle.machine.specs.Wire.{unit}
 use Rattle.machine.specs.Finish.{takenRequest}
 use Rattle.machine.specs.Calls.{receive, number}
 use Rattle.machine.specs.Valid.{isBegun, PhaseFacts}
-use Rattle.machine.specs.History.{Log, isTransmit, kindOf, responseFor, leastLength, fixedAtEntry, commanded, sending, transmitted}
+use Rattle.machine.specs.History.{Trace, isTransmit, kindOf, responseFor, leastLength, fixedAtEntry, commanded, sending, transmitted}
 use Rattle.machine.specs.Demands.{isProcess}
-use Rattle.machine.specs.declared.Taking.{Taking}
-use Rattle.machine.specs.declared.Taking.the-variants.{Untaken, Taken}
-use Rattle.machine.specs.declared.Request.{Request}
-use Rattle.machine.specs.declared.Response.{Response}
-use Rattle.machine.specs.declared.Phase.{Phase}
-use Rattle.machine.specs.declared.Phase.the-variants.{Idle, Receive, Process, Answered, Transmit}
-use Rattle.machine.specs.declared.Slot.{Slot}
+use Rattle.machine.specs.Types.{Taking, Untaken, Taken, Request, Response, Outgoing, Phase, Idle, Receive, Process, Answered, Transmit, Slot}
 use Rattle.machine.proofs.Slots.{isEarly}
 
 -- ---- the fit
@@ -39,9 +33,9 @@ abbrev pub takesOf : Taking → ℕ
 takesOf Untaken = 0
 takesOf Taken = 1
 
--- a command in Process: the store's front is the request, the state has its kind, sender and tag, no response is fixed, and the log counts
+-- a command in Process: the store's front is the request, the state has its kind, sender and tag, no response is fixed, and the trace counts
 -- its take
-pub record Asked (r : Request) (store : List ℕ) (l : Log) : Type 0 where
+pub record Asked (r : Request) (store : List ℕ) (l : Trace) : Type 0 where
   pub held : take (r .length) store ≡ l .request
   pub kind-is : r .kind ≡ kindOf (l .request)
   pub from : r .source ≡ l .requester
@@ -50,31 +44,31 @@ pub record Asked (r : Request) (store : List ℕ) (l : Log) : Type 0 where
   pub takes-are : l .takes ≡ takesOf (r .taking)
 
 -- a response that is there: the store's front is the response of the last entry, to its requester under its tag
-pub record Full (r : Response) (store : List ℕ) (l : Log) : Type 0 where
+pub record Full (r : Response) (store : List ℕ) (l : Trace) : Type 0 where
   pub held : take (r .length) store ≡ l .response
   pub size : length (l .response) ≡ r .length
   pub to : r .requester ≡ l .requester
   pub under : r .tag ≡ l .tag
 
-pub record Going (r : Response) (store : List ℕ) (l : Log) : Type 0 where
-  pub full : Full r store l
+pub record Going (r : Outgoing) (store : List ℕ) (l : Trace) : Type 0 where
+  pub full : Full (r .response) store l
   pub paid : l .payloads ≡ take (unit * r .sent) (l .response)
   pub count : l .packets ≡ r .sent
 
-abbrev pub FitP : Phase → List ℕ → Log → Type 0
+abbrev pub FitP : Phase → List ℕ → Trace → Type 0
 FitP Idle store l = Unit {0}
 FitP (Receive a) store l = take (a .length) store ≡ l .request
 FitP (Process r) store l = Asked r store l
 FitP (Answered r) store l = Full r store l
 FitP (Transmit r) store l = Going r store l
 
-pub record Fit (s : Slot) (store : List ℕ) (l : Log) : Type 0 where
+pub record Fit (s : Slot) (store : List ℕ) (l : Trace) : Type 0 where
   pub phase-fits : FitP (s .phase) store l
   pub ticket-is : s .ticket .0 ≡ l .entries % 2 ^ 32
 
 -- ---- what a call does to a slot's entries and request
 
-pub data Entry (p q : Phase) (l m : Log) : Type 0 where
+pub data Entry (p q : Phase) (l m : Trace) : Type 0 where
   entered : isEarly p ≡ true → isEarly q ≡ false → m .entries ≡ l .entries + 1 → Entry p q l m
   stayed : m .entries ≡ l .entries → (isProcess q ≡ true → (isProcess p ≡ true) × (m .request ≡ l .request)) → Entry p q l m
 
@@ -83,17 +77,17 @@ pub data Entry (p q : Phase) (l m : Log) : Type 0 where
 pub data Steady (C : Type 0) (p q : Phase) : Type 0 where
   same : q ≡ p → Steady C p q
   newly : isEarly p ≡ true → isBegun q ≡ false → Steady C p q
-  released : (r : Response) → p ≡ Answered r → q ≡ Transmit r → Steady C p q
+  released : (r : Response) → p ≡ Answered r → q ≡ Transmit (outgoing r 0) → Steady C p q
   handed-over : (r : Request) → p ≡ Process r → q ≡ Process (takenRequest r) → Steady C p q
-  worked : (r : Request) (b : Bool) (x : Response) → p ≡ Process r → q ≡ settled b x → x .sent ≡ 0 → Steady C p q
+  worked : (r : Request) (b : Bool) (x : Response) → p ≡ Process r → q ≡ settled b x → Steady C p q
   fell : C → q ≡ Idle → Steady C p q
 
-pub record Carried (C : Type 0) (s t : Slot) (store : List ℕ) (l m : Log) : Type 0 where
+pub record Carried (C : Type 0) (s t : Slot) (store : List ℕ) (l m : Trace) : Type 0 where
   pub fit : Fit t store m
   pub entry : Entry (s .phase) (t .phase) l m
   pub steady : Steady C (s .phase) (t .phase)
 
--- ---- what the log gains of a call that hands out no packet
+-- ---- what the trace gains of a call that hands out no packet
 
 not-and : (b : Bool) → (not b && b) ≡ false
 not-and true = refl
@@ -103,22 +97,22 @@ and-false : (b : Bool) → (b && false) ≡ false
 and-false true = refl
 and-false false = refl
 
-pub quiet-same : (p q : Phase) (n : ℕ) (l : Log) → q ≡ p → transmitted p q (number n) l ≡ l
+pub quiet-same : (p q : Phase) (n : ℕ) (l : Trace) → q ≡ p → transmitted p q (number n) l ≡ l
 quiet-same p q n l e = rw (e, not-and (isTransmit p)) refl
 
-pub quiet-other : (p q : Phase) (n : ℕ) (l : Log) → isTransmit q ≡ false → transmitted p q (number n) l ≡ l
+pub quiet-other : (p q : Phase) (n : ℕ) (l : Trace) → isTransmit q ≡ false → transmitted p q (number n) l ≡ l
 quiet-other p q n l e = rw (e, and-false (not (isTransmit p))) refl
 
-pub quiet-begins : (p q : Phase) (n : ℕ) (l : Log) → isTransmit p ≡ false → isTransmit q ≡ true → transmitted p q (number n) l ≡ sending l 0 []
+pub quiet-begins : (p q : Phase) (n : ℕ) (l : Trace) → isTransmit p ≡ false → isTransmit q ≡ true → transmitted p q (number n) l ≡ sending l 0 []
 quiet-begins p q n l e f = rw (e, f) refl
 
 -- a refused packet adds nothing
-pub refusal-log : (j : ℕ) (p : List ℕ) (w : World) (n : ℕ) (l : Log) → 2 ≤ n → commanded j (receive p) w (number n) l ≡ l
-refusal-log j p w n l h = rw (ne-eqb n 0 (λ e. omega arith), ne-eqb n 1 (λ e. omega arith)) refl
+pub refusal-trace : (j : ℕ) (p : List ℕ) (w : World) (n : ℕ) (l : Trace) → 2 ≤ n → commanded j (receive p) w (number n) l ≡ l
+refusal-trace j p w n l h = rw (ne-eqb n 0 (λ e. omega arith), ne-eqb n 1 (λ e. omega arith)) refl
 
 -- ---- a slot that a call leaves alone, or that falls back to Idle
 
-pub carried-same : {C : Type 0} {s t : Slot} {store : List ℕ} {l : Log} (n : ℕ) → t .phase ≡ s .phase → t .ticket ≡ s .ticket → Fit s store l
+pub carried-same : {C : Type 0} {s t : Slot} {store : List ℕ} {l : Trace} (n : ℕ) → t .phase ≡ s .phase → t .ticket ≡ s .ticket → Fit s store l
     → Carried C s t store l (transmitted (s .phase) (t .phase) (number n) l)
 carried-same {C} {s} {t} {store} {l} n e k f =
     rw (quiet-same (s .phase) (t .phase) n l e)
@@ -135,7 +129,7 @@ idle-process : {A : Type 0} {q : Phase} → q ≡ Idle → isProcess q ≡ true 
 idle-process e h = false-true (rw e at h)
 
 -- the store may have changed
-carried-idle : {C : Type 0} {s t : Slot} (store : List ℕ) {l : Log} (n : ℕ) → t .phase ≡ Idle → t .ticket ≡ s .ticket → s .ticket .0 ≡ l .entries % 2 ^ 32
+carried-idle : {C : Type 0} {s t : Slot} (store : List ℕ) {l : Trace} (n : ℕ) → t .phase ≡ Idle → t .ticket ≡ s .ticket → s .ticket .0 ≡ l .entries % 2 ^ 32
     → Steady C (s .phase) (t .phase) → Carried C s t store l (transmitted (s .phase) (t .phase) (number n) l)
 carried-idle {C} {s} {t} store {l} n e k f g =
     rw (quiet-other (s .phase) (t .phase) n l (idle-not e))
@@ -145,24 +139,24 @@ carried-idle {C} {s} {t} store {l} n e k f g =
       steady = g;
     })
 
-pub carried-ended : {C : Type 0} {s t : Slot} (store : List ℕ) {l : Log} (n : ℕ) → isEarly (s .phase) ≡ true → t .phase ≡ Idle → t .ticket ≡ s .ticket
+pub carried-ended : {C : Type 0} {s t : Slot} (store : List ℕ) {l : Trace} (n : ℕ) → isEarly (s .phase) ≡ true → t .phase ≡ Idle → t .ticket ≡ s .ticket
     → s .ticket .0 ≡ l .entries % 2 ^ 32 → Carried C s t store l (transmitted (s .phase) (t .phase) (number n) l)
 carried-ended store n early e k f = carried-idle store n e k f (newly early (rw e refl))
 
-pub carried-cut : {C : Type 0} {s t : Slot} (store : List ℕ) {l : Log} (n : ℕ) → C → t .phase ≡ Idle → t .ticket ≡ s .ticket
+pub carried-cut : {C : Type 0} {s t : Slot} (store : List ℕ) {l : Trace} (n : ℕ) → C → t .phase ≡ Idle → t .ticket ≡ s .ticket
     → s .ticket .0 ≡ l .entries % 2 ^ 32 → Carried C s t store l (transmitted (s .phase) (t .phase) (number n) l)
 carried-cut store n c e k f = carried-idle store n e k f (fell c e)
 
 -- Resume: a response that waited in Process goes to Transmit
-pub carried-released : {C : Type 0} {s t : Slot} {store : List ℕ} {l : Log} (n : ℕ) (r : Response) → s .phase ≡ Answered r → r .sent ≡ 0
-    → t .phase ≡ Transmit r → t .ticket ≡ s .ticket → Fit s store l → Carried C s t store l (transmitted (s .phase) (t .phase) (number n) l)
-carried-released {C} {s} {t} {store} {l} n r a z e k f =
+pub carried-released : {C : Type 0} {s t : Slot} {store : List ℕ} {l : Trace} (n : ℕ) (r : Response) → s .phase ≡ Answered r
+    → t .phase ≡ Transmit (outgoing r 0) → t .ticket ≡ s .ticket → Fit s store l → Carried C s t store l (transmitted (s .phase) (t .phase) (number n) l)
+carried-released {C} {s} {t} {store} {l} n r a e k f =
     let full : Full r store l = rw a at (f .phase-fits) in
     rw (quiet-begins (s .phase) (t .phase) n l (rw a refl) (rw e refl))
     (record {
       fit =
           record {
-            phase-fits = rw e (record { full = record { held = full .held; size = full .size; to = full .to; under = full .under }; paid = rw z refl; count = sym z });
+            phase-fits = rw e (record { full = record { held = full .held; size = full .size; to = full .to; under = full .under }; paid = refl; count = refl });
             ticket-is = rw k (f .ticket-is);
           };
       entry = stayed refl (λ h. false-true (rw e at h));
@@ -201,32 +195,32 @@ fixed-is i request =
 
 -- ---- a response that is there for the first time
 
-entry-sending : {p q : Phase} {l m : Log} → Entry p q l m → Entry p q l (sending m 0 [])
+entry-sending : {p q : Phase} {l m : Trace} → Entry p q l m → Entry p q l (sending m 0 [])
 entry-sending (entered a b e) = entered a b e
 entry-sending (stayed e f) = stayed e f
 
 -- it goes to Transmit at once, unless the slot's own flag is set
-pub carried-settled : {C : Type 0} {s t : Slot} {store : List ℕ} {l : Log} (m : Log) (n : ℕ) (b : Bool) (r : Response) → isTransmit (s .phase) ≡ false
-    → t .phase ≡ settled b r → r .sent ≡ 0 → Full r store m → t .ticket .0 ≡ m .entries % 2 ^ 32 → Entry (s .phase) (t .phase) l m → Steady C (s .phase) (t .phase)
+pub carried-settled : {C : Type 0} {s t : Slot} {store : List ℕ} {l : Trace} (m : Trace) (n : ℕ) (b : Bool) (r : Response) → isTransmit (s .phase) ≡ false
+    → t .phase ≡ settled b r → Full r store m → t .ticket .0 ≡ m .entries % 2 ^ 32 → Entry (s .phase) (t .phase) l m → Steady C (s .phase) (t .phase)
     → Carried C s t store l (transmitted (s .phase) (t .phase) (number n) m)
-carried-settled {C} {s} {t} {store} {l} m n true r a e z f k y g =
+carried-settled {C} {s} {t} {store} {l} m n true r a e f k y g =
     rw (quiet-other (s .phase) (t .phase) n m (rw e refl))
     (record { fit = record { phase-fits = rw e f; ticket-is = k }; entry = y; steady = g })
-carried-settled {C} {s} {t} {store} {l} m n false r a e z f k y g =
+carried-settled {C} {s} {t} {store} {l} m n false r a e f k y g =
     rw (quiet-begins (s .phase) (t .phase) n m a (rw e refl))
     (record {
       fit =
           record {
-            phase-fits = rw e (record { full = record { held = f .held; size = f .size; to = f .to; under = f .under }; paid = rw z refl; count = sym z });
+            phase-fits = rw e (record { full = record { held = f .held; size = f .size; to = f .to; under = f .under }; paid = refl; count = refl });
             ticket-is = k;
           };
       entry = entry-sending y;
       steady = g;
     })
 
-pub settled-begun : (b : Bool) (r : Response) → r .sent ≡ 0 → isBegun (settled b r) ≡ false
-settled-begun true r z = refl
-settled-begun false r z = rw z refl
+pub settled-begun : (b : Bool) (r : Response) → isBegun (settled b r) ≡ false
+settled-begun true r = refl
+settled-begun false r = refl
 
 pub settled-late : (b : Bool) (r : Response) → isEarly (settled b r) ≡ false
 settled-late true r = refl
@@ -244,24 +238,21 @@ next-ticket t e h = rw h (omega arith)
 
 pub data There (q : Phase) : Type 0 where
   waits : (r : Response) → q ≡ Answered r → There q
-  goes : (r : Response) → q ≡ Transmit r → There q
+  goes : (r : Outgoing) → q ≡ Transmit r → There q
 
 pub settled-there : (b : Bool) (r : Response) {q : Phase} → q ≡ settled b r → There q
 settled-there true r e = waits r e
-settled-there false r e = goes r e
+settled-there false r e = goes (outgoing r 0) e
 
 pub answered-not : {A : Type 0} {r : Response} {x : Request} → Answered r ≡ Process x → A
-answered-not {r = r} {x = x} e = absurd (omega (arith, differ e))
-  where
-    differ : Answered r ≡ Process x → _≡_ {A = ℕ} 0 1
-    differ e = cc
+answered-not e = differ (cc e)
 
--- the log has it, and it is not empty
-pub some-response : (s : Slot) (store : List ℕ) (l : Log) → Fit s store l → PhaseFacts (s .paused) (s .phase) → There (s .phase) → l .response ≡ [] → ⊥
+-- the trace has it, and it is not empty
+pub some-response : (s : Slot) (store : List ℕ) (l : Trace) → Fit s store l → PhaseFacts (s .paused) (s .phase) → There (s .phase) → l .response ≡ [] → ⊥
 some-response s store l f v (waits r e) none =
     let k : Full r store l = rw e at (f .phase-fits) in
     let b : PhaseFacts (s .paused) (Answered r) = rw e at v in
-    omega (arith, k .size, ap (λ (x : List ℕ). length x) none, b .2 .least)
+    omega (arith, k .size, ap (λ (x : List ℕ). length x) none, b .1 .least)
 some-response s store l f v (goes r e) none =
     let k : Going r store l = rw e at (f .phase-fits) in
     let b : PhaseFacts (s .paused) (Transmit r) = rw e at v in

@@ -1,9 +1,9 @@
--- What holds of every history: the world is sound, and each slot, its store and its log fit.
+-- What holds of every history: the world is sound, and each slot, its store and its trace fit.
 -- Assumes nothing.
-use Prim.Native.Nat.{ℕ, zero, suc, _+_, _-_, _*_, _/_, _%_, _^_, _≤_, _<_}
-use mathlib.Core.Path.{_≡_, refl, _∙_}
-use mathlib.Core.Bool.{Bool, true, false, _&&_, _||_}
-use mathlib.Core.List.{List, [], _∷_, _++_}
+use Prim.Native.Nat.{ℕ, zero, suc, _≤_}
+use mathlib.Core.Path.{_≡_, refl}
+use mathlib.Core.Bool.{true, _||_}
+use mathlib.Core.List.{List, [], _∷_}
 use native.Mathlib.Omega.{arith}
 use lib.Dec.{ltb}
 use lib.ListN.{length}
@@ -12,11 +12,10 @@ use Rattle.machine.specs.State.{slotAt, storeAt, fresh, ticket}
 use Rattle.machine.specs.Wire.{store-size}
 use Rattle.machine.specs.Finish.{wasSetUp}
 use Rattle.machine.specs.Valid.{Sound}
-use Rattle.machine.specs.Calls.{Call, receive, take!, read, complete, poll, timeout, reset, step, begin}
-use Rattle.machine.specs.History.{Log, History, logAfter, next, run, start}
+use Rattle.machine.specs.Calls.{Call, receive, take!, read, complete, poll, timeout, reset, isPlain, step, begin}
+use Rattle.machine.specs.History.{Trace, History, traceAfter, next, run, start}
 use Rattle.machine.specs.Demands.{AlwaysSound}
-use Rattle.machine.specs.declared.Slot.{Slot}
-use Rattle.machine.specs.declared.Done.{Done}
+use Rattle.machine.specs.Types.{Slot, Done}
 use Rattle.machine.proofs.Keeps.{begin-valid, step-sound}
 use Rattle.machine.proofs.Fits.{Fit, Carried}
 use Rattle.machine.proofs.Received.{Carries, received-carries}
@@ -25,45 +24,42 @@ use Rattle.machine.proofs.Polling.{PollKept, poll-kept}
 
 pub record Good (h : History) : Type 0 where
   pub sound : Sound (h .world)
-  pub fits : (j : ℕ) → j ≤ 1 → Fit (slotAt (h .world .endpoint) j) (storeAt (h .world) j) (h .log j)
+  pub fits : (j : ℕ) → j ≤ 1 → Fit (slotAt (h .world .endpoint) j) (storeAt (h .world) j) (h .trace j)
 
--- what a call leaves of slot j and its log
+-- what a call leaves of slot j and its trace
 abbrev pub KeptBy : Call → History → ℕ → Type 0
 KeptBy c h j =
-    PollKept (slotAt (h .world .endpoint) j) (slotAt (step c (h .world) .world .endpoint) j) (storeAt (step c (h .world) .world) j) (h .log j)
-    (logAfter j c (h .world) (step c (h .world)) (h .log j))
+    PollKept (slotAt (h .world .endpoint) j) (slotAt (step c (h .world) .world .endpoint) j) (storeAt (step c (h .world) .world) j) (h .trace j)
+    (traceAfter j c (h .world) (step c (h .world)) (h .trace j))
 
-of-carried : {C : Type 0} {s t : Slot} {store : List ℕ} {l m : Log} → Carried C s t store l m → PollKept s t store l m
+of-carried : {C : Type 0} {s t : Slot} {store : List ℕ} {l m : Trace} → Carried C s t store l m → PollKept s t store l m
 of-carried c = record { fit = c .fit; entry = c .entry }
 
--- the calls that send nothing and keep the turn
-abbrev pub isPlain : Call → Bool
-isPlain (receive p) = true
-isPlain (take! i) = true
-isPlain (read i) = true
-isPlain (complete i t body) = true
-isPlain (poll buffer) = false
-isPlain (timeout i) = true
-isPlain reset = false
+-- a property of every call, from that of the plain ones, of a poll and of a reset
+pub by-kind : (P : Call → Type 0) → ((c : Call) → isPlain c ≡ true → P c) → ((buffer : List ℕ) → P (poll buffer)) → P reset → (c : Call) → P c
+by-kind P plain polled was-reset (receive p) = plain (receive p) refl
+by-kind P plain polled was-reset (take! i) = plain (take! i) refl
+by-kind P plain polled was-reset (read i) = plain (read i) refl
+by-kind P plain polled was-reset (complete i t body) = plain (complete i t body) refl
+by-kind P plain polled was-reset (poll buffer) = polled buffer
+by-kind P plain polled was-reset (timeout i) = plain (timeout i) refl
+by-kind P plain polled was-reset reset = was-reset
 
-pub plain-carries : (c : Call) (h : History) → Good h → isPlain c ≡ true → Carries c (h .world) (h .log) (step c (h .world))
+pub plain-carries : (c : Call) (h : History) → Good h → isPlain c ≡ true → Carries c (h .world) (h .trace) (step c (h .world))
 unfolding step
-plain-carries (receive p) h g e = received-carries (h .world) p (h .log) (g .sound) (g .fits)
-plain-carries (take! i) h g e = take-carries (h .world) (h .log) (g .sound) (g .fits) i
-plain-carries (read i) h g e = unfold step in (read-carries (h .world) (h .log) (g .sound) (g .fits) i)
-plain-carries (complete i t body) h g e = complete-carries (h .world) (h .log) (g .sound) (g .fits) i t body
+plain-carries (receive p) h g e = received-carries (h .world) p (h .trace) (g .sound) (g .fits)
+plain-carries (take! i) h g e = take-carries (h .world) (h .trace) (g .sound) (g .fits) i
+plain-carries (read i) h g e = unfold step in (read-carries (h .world) (h .trace) (g .sound) (g .fits) i)
+plain-carries (complete i t body) h g e = complete-carries (h .world) (h .trace) (g .sound) (g .fits) i t body
 plain-carries (poll buffer) h g e = false-true e
-plain-carries (timeout i) h g e = timeout-carries (h .world) (h .log) (g .sound) (g .fits) i
+plain-carries (timeout i) h g e = timeout-carries (h .world) (h .trace) (g .sound) (g .fits) i
 plain-carries reset h g e = false-true e
 
 pub kept-by : (c : Call) (h : History) → Good h → (j : ℕ) → j ≤ 1 → KeptBy c h j
-kept-by (receive p) h g j js = of-carried (plain-carries (receive p) h g refl .carried j js)
-kept-by (take! i) h g j js = of-carried (plain-carries (take! i) h g refl .carried j js)
-kept-by (read i) h g j js = of-carried (plain-carries (read i) h g refl .carried j js)
-kept-by (complete i t body) h g j js = of-carried (plain-carries (complete i t body) h g refl .carried j js)
-kept-by (poll buffer) h g j js = poll-kept (h .world) buffer (h .log) (g .sound) (g .fits) j js
-kept-by (timeout i) h g j js = of-carried (plain-carries (timeout i) h g refl .carried j js)
-kept-by reset h g j js = unfold step in (of-carried (reset-carried (h .world) (h .log) (g .sound) (g .fits) j js))
+kept-by c h g j js =
+    by-kind (λ (c : Call). KeptBy c h j) (λ c plain. of-carried (plain-carries c h g plain .carried j js))
+    (λ buffer. poll-kept (h .world) buffer (h .trace) (g .sound) (g .fits) j js)
+    (unfold step in (of-carried (reset-carried (h .world) (h .trace) (g .sound) (g .fits) j js))) c
 
 pub good-next : (c : Call) (h : History) → Good h → Good (next c h)
 unfolding next

@@ -1,27 +1,25 @@
 -- The invariant as a test and the invariant as facts say the same.
 -- Assumes nothing.
-use Prim.Native.Nat.{ℕ, _*_, _/_, _%_, _^_, _≤_, _<_}
-use mathlib.Core.Path.{_≡_, refl, _∙_}
+use Prim.Native.Nat.{ℕ, _*_, _/_, _%_, _^_, _≤_}
+use mathlib.Core.Path.{_≡_, refl}
 use mathlib.Core.Bool.{Bool, true, false, not, _&&_, _||_}
 use mathlib.Core.List.{List, [], _∷_}
 use lib.Dec.{eqb, leb}
 use lib.ListN.{length}
 use borrow.Author.Tests.{ltb-true, leb-true, eqb-true, lt-ltb, le-leb, eq-eqb, not-true}
 use Rattle.lent.proofs.Choice.{false-true, and-both, both-and}
+use Rattle.nvme_mi.specs.Message.{smallest}
 use Rattle.machine.specs.State.{isIdle}
-use Rattle.machine.specs.Wire.{unit, store-size, smallest}
+use Rattle.machine.specs.Wire.{unit, store-size}
 use Rattle.machine.specs.Poll.{otherSlot}
 use Rattle.machine.specs.Valid.{smallest-response, between, phased, unpausedIdle, gatheredFits, packetLeft, messageFits, waitsPaused, isBegun, begunTurn, allOf, clauses, validWith, valid, PhaseFacts, ValidSlots, two, Valid}
-use Rattle.machine.specs.declared.Phase.{Phase}
-use Rattle.machine.specs.declared.Phase.the-variants.{Idle, Receive, Process, Answered, Transmit}
-use Rattle.machine.specs.declared.Slot.{Slot}
-use Rattle.machine.specs.declared.Endpoint.{Endpoint}
+use Rattle.machine.specs.Types.{Phase, Idle, Receive, Process, Answered, Transmit, Slot, Endpoint}
 
-within : (low high n : ℕ) → between low high n ≡ true → (low ≤ n) × (n ≤ high)
-within low high n h = let k = and-both (leb low n) (leb n high) h in (leb-true low n (k .0), leb-true n high (k .1))
+between-bounds : (low high n : ℕ) → between low high n ≡ true → (low ≤ n) × (n ≤ high)
+between-bounds low high n h = let k = and-both (leb low n) (leb n high) h in (leb-true low n (k .0), leb-true n high (k .1))
 
-is-within : (low high n : ℕ) → low ≤ n → n ≤ high → between low high n ≡ true
-is-within low high n a b = both-and (leb low n) (leb n high) (le-leb low n a) (le-leb n high b)
+bounds-between : (low high n : ℕ) → low ≤ n → n ≤ high → between low high n ≡ true
+bounds-between low high n a b = both-and (leb low n) (leb n high) (le-leb low n a) (le-leb n high b)
 
 -- ---- one slot: five of the clauses speak of it alone
 
@@ -30,38 +28,37 @@ pub record Passes (b : Bool) (p : Phase) : Type 0 where
   pub gathered : gatheredFits p ≡ true
   pub left : packetLeft p ≡ true
   pub fits : messageFits p ≡ true
-  pub waits : phased true (λ a. true) (λ r. true) (λ r. b && eqb (r .sent) 0) (λ r. true) p ≡ true
+  pub waits : phased true (λ a. true) (λ r. true) (λ r. b) (λ r. true) p ≡ true
 
 to-facts : (b : Bool) (p : Phase) → Passes b p → PhaseFacts b p
 to-facts b Idle c = not-true b (c .idle)
-to-facts b (Receive a) c = within unit store-size (a .length) (c .gathered)
-to-facts b (Process r) c = within smallest store-size (r .length) (c .fits)
+to-facts b (Receive a) c = between-bounds unit store-size (a .length) (c .gathered)
+to-facts b (Process r) c = between-bounds smallest store-size (r .length) (c .fits)
 to-facts b (Answered r) c =
-    let k = and-both b (eqb (r .sent) 0) (c .waits) in
-    let f = within smallest-response store-size (r .length) (c .fits) in
-    (k .0, eqb-true (r .sent) 0 (k .1), record { least = f .0; most = f .1 })
+    let f = between-bounds smallest-response store-size (r .length) (c .fits) in
+    (c .waits, record { least = f .0; most = f .1 })
 to-facts b (Transmit r) c =
-    let f = within smallest-response store-size (r .length) (c .fits) in
-    (ltb-true (unit * r .sent) (r .length) (c .left), record { least = f .0; most = f .1 })
+    let f = between-bounds smallest-response store-size (r .response .length) (c .fits) in
+    (ltb-true (unit * r .sent) (r .response .length) (c .left), record { least = f .0; most = f .1 })
 
 of-facts : (b : Bool) (p : Phase) → PhaseFacts b p → Passes b p
 of-facts b Idle f = record { idle = rw f refl; gathered = refl; left = refl; fits = refl; waits = refl }
-of-facts b (Receive a) f = record { idle = refl; gathered = is-within unit store-size (a .length) (f .0) (f .1); left = refl; fits = refl; waits = refl }
-of-facts b (Process r) f = record { idle = refl; gathered = refl; left = refl; fits = is-within smallest store-size (r .length) (f .0) (f .1); waits = refl }
+of-facts b (Receive a) f = record { idle = refl; gathered = bounds-between unit store-size (a .length) (f .0) (f .1); left = refl; fits = refl; waits = refl }
+of-facts b (Process r) f = record { idle = refl; gathered = refl; left = refl; fits = bounds-between smallest store-size (r .length) (f .0) (f .1); waits = refl }
 of-facts b (Answered r) f =
     record {
       idle = refl;
       gathered = refl;
       left = refl;
-      fits = is-within smallest-response store-size (r .length) (f .2 .least) (f .2 .most);
-      waits = both-and b (eqb (r .sent) 0) (f .0) (eq-eqb (r .sent) 0 (f .1));
+      fits = bounds-between smallest-response store-size (r .length) (f .1 .least) (f .1 .most);
+      waits = f .0;
     }
 of-facts b (Transmit r) f =
     record {
       idle = refl;
       gathered = refl;
-      left = lt-ltb (unit * r .sent) (r .length) (f .0);
-      fits = is-within smallest-response store-size (r .length) (f .1 .least) (f .1 .most);
+      left = lt-ltb (unit * r .sent) (r .response .length) (f .0);
+      fits = bounds-between smallest-response store-size (r .response .length) (f .1 .least) (f .1 .most);
       waits = refl;
     }
 
@@ -104,11 +101,9 @@ valid-two e s t slots-are h =
     let turns = and-both (begunTurn (e .turn) 0 (s .phase)) (begunTurn (e .turn) 1 (t .phase)) (h .1 .1 .1 .1 .1 .1 .1 .1 .0) in
     let flags = and-both (eqb (e .flags % 2 ^ 4) 0 && eqb (e .flags / 2 ^ 13 % 2) 0) (eqb (e .flags / 2 ^ 15) 0) (h .1 .1 .1 .1 .1 .1 .1 .1 .1 .0) in
     let low = and-both (eqb (e .flags % 2 ^ 4) 0) (eqb (e .flags / 2 ^ 13 % 2) 0) (flags .0) in
-    let eid = within 8 254 (e .eid) (h .0) in
+    let eid = between-bounds 8 254 (e .eid) (h .0) in
     record {
-      eid-least = eid .0;
-      eid-most = eid .1;
-      turn-most = leb-true (e .turn) 1 (h .1 .0);
+      numbers = record { eid-least = eid .0; eid-most = eid .1; turn-most = leb-true (e .turn) 1 (h .1 .0) };
       slots-valid =
           rw slots-are
           (two
@@ -154,9 +149,9 @@ facts-valid e v = go (e .slots) (v .slots-valid)
         let turn-s : begunTurn (e .turn) 0 (s .phase) ≡ true = of-turn (isBegun (s .phase)) (e .turn) 0 (vs .begun-turn) in
         let turn-t : begunTurn (e .turn) 1 (t .phase) ≡ true = of-turn (isBegun (t .phase)) (e .turn) 1 (vt .begun-turn) in
         all-hold (clauses e s t) (
-          is-within 8 254 (e .eid) (v .eid-least) (v .eid-most),
+          bounds-between 8 254 (e .eid) (v .numbers .eid-least) (v .numbers .eid-most),
           (
-            le-leb (e .turn) 1 (v .turn-most),
+            le-leb (e .turn) 1 (v .numbers .turn-most),
             (
               both-and (unpausedIdle s) (unpausedIdle t) (ps .idle) (pt .idle),
               (

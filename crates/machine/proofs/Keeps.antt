@@ -1,30 +1,30 @@
 -- Setup's state has the invariant, and every call's definition keeps it, whatever the call is given.
 -- Assumes nothing.
-use Prim.Native.Nat.{ℕ, zero, suc, _+_, _-_, _*_, _/_, _%_, _^_, _≤_, _<_}
+use Prim.Native.Nat.{ℕ, zero, suc, _+_, _*_, _/_, _%_, _^_, _≤_, _<_}
 use mathlib.Core.Path.{_≡_, refl, sym, _∙_}
-use mathlib.Core.Bool.{Bool, true, false, not, _&&_, _||_}
-use mathlib.Core.List.{List, [], _∷_, _++_}
+use mathlib.Core.Bool.{Bool, true, false, not, _||_}
+use mathlib.Core.List.{List, [], _∷_}
 use native.Mathlib.Omega.{arith}
 use lib.Bits.{bitOr, or-mod, or-shr}
 use lib.Dec.{eqb, ltb}
-use lib.ListN.{length, take, getD, set}
+use lib.ListN.{length, getD, set}
 use borrow.Author.Tests.{ltb-false, ltb-true, eqb-true, eqb-false, not-true, not-false}
 use Rattle.lent.specs.Choice.{if_then_else_}
 use Rattle.lent.specs.Bytes.{put}
-use Rattle.lent.proofs.Choice.{if-ind, if-second, or-left, or-right, false-true}
+use Rattle.lent.proofs.Choice.{if-ind, if-second, or-left, or-right, false-true, differ}
 use Rattle.lent.proofs.Stores.{length-put}
 use Rattle.mctp.specs.Header.{fields, payloadOf}
 use Rattle.mctp.specs.declared.Header.{Header}
 use Rattle.mctp.specs.Cut.{packets}
 use Rattle.mctp.proofs.Laws.{packets-bounds}
-use Rattle.nvme_mi.specs.Message.{control, messageHeader, commandFault, controlFault}
+use Rattle.nvme_mi.specs.Message.{control, messageHeader, commandFault, controlFault, smallest}
 use Rattle.nvme_mi.specs.Response.{response, faultBody}
 use Rattle.nvme_mi.proofs.Laws.{length-response}
 use Rattle.nvme_mi.specs.declared.MessageHeader.{MessageHeader}
 use Rattle.nvme_mi.specs.declared.Fault.{Fault}
 use Rattle.nvme_mi.specs.declared.Fault.the-variants.{NoFault, Parameter, Failure}
 use Rattle.machine.specs.State.{World, Outcome, slotAt, storeAt, withSlot, withSlots, withFlags, withReply, withStore, withEndpoint, withPhase, withBusy, idled, isIdle, fresh, ticket, settled}
-use Rattle.machine.specs.Wire.{unit, store-size, response-place, smallest, packet-room, wrongStores, opcodeOf, clearsFlags}
+use Rattle.machine.specs.Wire.{unit, store-size, response-place, packet-room, wrongStores, opcodeOf, clearsFlags}
 use Rattle.machine.specs.Control.{pausedSlot, pause, resumedSlot, released, resume, abort, clearFlags, primitive, replied, controlledBy, controlled}
 use Rattle.machine.specs.Process.{request, processing, responseTo, responded, respondedAtOnce, entered}
 use Rattle.machine.specs.Receive.{refused, refusedBusy, raised, flagOf, dropped, gathers, endedSlot, endAssembly, received}
@@ -32,21 +32,7 @@ use Rattle.machine.specs.Finish.{isSlot, takenRow, takenFrom, taken, isB
 use Rattle.machine.specs.Poll.{Polled, otherSlot, sendingOr, hasBegun, begunOr, chosen, anyPaused, ready, replyFirst, isLast, advanced, afterPacket, sentControl, sentCommand, polledBy, polled}
 use Rattle.machine.specs.Valid.{phased, apart, isBegun, Fits, PhaseFacts, ValidSlot, ValidSlots, two, ValidFlags, Valid, Sound}
 use Rattle.machine.specs.Calls.{Call, receive, take!, read, complete, poll, timeout, reset, step, begin}
-use Rattle.machine.specs.declared.Ticket.{Ticket}
-use Rattle.machine.specs.declared.Assembly.{Assembly}
-use Rattle.machine.specs.declared.Taking.{Taking}
-use Rattle.machine.specs.declared.Taking.the-variants.{Untaken, Taken}
-use Rattle.machine.specs.declared.Request.{Request}
-use Rattle.machine.specs.declared.Response.{Response}
-use Rattle.machine.specs.declared.Phase.{Phase}
-use Rattle.machine.specs.declared.Phase.the-variants.{Idle, Receive, Process, Answered, Transmit}
-use Rattle.machine.specs.declared.Slot.{Slot}
-use Rattle.machine.specs.declared.Endpoint.{Endpoint}
-use Rattle.machine.specs.declared.Done.{Done}
-use Rattle.machine.specs.declared.TakeDone.{TakeDone}
-use Rattle.machine.specs.declared.Acted.{Acted}
-use Rattle.machine.specs.declared.Ready.{Ready}
-use Rattle.machine.specs.declared.Ready.the-variants.{Nothing, From}
+use Rattle.machine.specs.Types.{Ticket, Assembly, Taking, Untaken, Taken, Request, Response, Outgoing, Phase, Idle, Receive, Process, Answered, Transmit, Slot, Endpoint, Done, TakeDone, Ready, Nothing, From, Acted}
 use Rattle.machine.proofs.Slots.{other-most, slot-facts, facts-at, apart-left, apart-new-left, apart-new-right}
 use Rattle.machine.proofs.Receiving.{Joining, filled, grown, Walk, csi-most, walked}
 
@@ -87,9 +73,7 @@ flag-valid n =
 pub with-slots : {e : Endpoint} {l : List Slot} → Valid e → ValidSlots (e .turn) l → Valid (withSlots e l)
 with-slots v s =
     record {
-      eid-least = v .eid-least;
-      eid-most = v .eid-most;
-      turn-most = v .turn-most;
+      numbers = v .numbers;
       slots-valid = s;
       flags-valid = v .flags-valid;
       reply-twelve = v .reply-twelve;
@@ -98,9 +82,7 @@ with-slots v s =
 with-flags : {e : Endpoint} {f : ℕ} → Valid e → ValidFlags f → Valid (withFlags e f)
 with-flags v f =
     record {
-      eid-least = v .eid-least;
-      eid-most = v .eid-most;
-      turn-most = v .turn-most;
+      numbers = v .numbers;
       slots-valid = v .slots-valid;
       flags-valid = f;
       reply-twelve = v .reply-twelve;
@@ -109,9 +91,7 @@ with-flags v f =
 with-reply : {e : Endpoint} {reply : List ℕ} (to tag : ℕ) → Valid e → length reply ≡ 12 → Valid (withReply e reply to tag)
 with-reply to tag v n =
     record {
-      eid-least = v .eid-least;
-      eid-most = v .eid-most;
-      turn-most = v .turn-most;
+      numbers = v .numbers;
       slots-valid = v .slots-valid;
       flags-valid = v .flags-valid;
       reply-twelve = n;
@@ -211,10 +191,10 @@ calmer-apart p p′ q (Process r) c d h = refl
 calmer-apart p p′ q (Answered r) c d h = refl
 calmer-apart p p′ q (Transmit r) c d h = refl
 
-both-slots : {turn : ℕ} {l : List Slot} (f : Slot → Slot) → ((s : Slot) → PhaseFacts (s .paused) (s .phase) → PhaseFacts (f s .paused) (f s .phase))
+on-both-valid : {turn : ℕ} {l : List Slot} (f : Slot → Slot) → ((s : Slot) → PhaseFacts (s .paused) (s .phase) → PhaseFacts (f s .paused) (f s .phase))
     → ((s : Slot) → PhaseFacts (s .paused) (s .phase) → Calmer (s .phase) (f s .phase)) → ValidSlots turn l
     → ValidSlots turn (f (getD l 0 (fresh (ticket 0))) ∷ f (getD l 1 (fresh (ticket 0))) ∷ [])
-both-slots f facts calm (two {s} {t} vs vt k) =
+on-both-valid f facts calm (two {s} {t} vs vt k) =
     let cs = calm s (vs .phase-facts) in
     let ct = calm t (vt .phase-facts) in
     two (record { phase-facts = facts s (vs .phase-facts); begun-turn = λ b. vs .begun-turn (cs .begun b) })
@@ -232,7 +212,7 @@ flag-facts : (b : Bool) (p : Phase) → isIdle p ≡ false → PhaseFacts b p �
 flag-facts b Idle h f = h
 flag-facts b (Receive a) h f = f
 flag-facts b (Process r) h f = f
-flag-facts b (Answered r) h f = (refl, f .1, f .2)
+flag-facts b (Answered r) h f = (refl, f .1)
 flag-facts b (Transmit r) h f = f
 
 paused-facts : (s : Slot) → PhaseFacts (s .paused) (s .phase) → PhaseFacts (pausedSlot s .paused) (pausedSlot s .phase)
@@ -244,28 +224,28 @@ paused-calm s = if-ind (λ (x : Slot). Calmer (s .phase) (x .phase)) (isIdle (s 
 
 pub pause-valid : {e : Endpoint} → Valid e → Valid (pause e)
 unfolding pause
-pause-valid v = with-slots v (both-slots pausedSlot paused-facts (λ s _. paused-calm s) (v .slots-valid))
+pause-valid v = with-slots v (on-both-valid pausedSlot paused-facts (λ s _. paused-calm s) (v .slots-valid))
 
 -- Resume
 released-facts : (b : Bool) (p : Phase) → PhaseFacts b p → PhaseFacts false (released p)
 released-facts b Idle f = refl
 released-facts b (Receive a) f = f
 released-facts b (Process r) f = f
-released-facts b (Answered r) f = (rw (f .1) (omega (arith, f .2 .least)), f .2)
+released-facts b (Answered r) f = (omega (arith, f .1 .least), f .1)
 released-facts b (Transmit r) f = f
 
-released-calm : (b : Bool) (p : Phase) → PhaseFacts b p → Calmer p (released p)
-released-calm b Idle f = same-calm Idle
-released-calm b (Receive a) f = same-calm (Receive a)
-released-calm b (Process r) f = same-calm (Process r)
-released-calm b (Answered r) f = record { fewer = λ s t h. refl; was = λ x h. cc; begun = λ h. rw (f .1) at h }
-released-calm b (Transmit r) f = same-calm (Transmit r)
+released-calm : (p : Phase) → Calmer p (released p)
+released-calm Idle = same-calm Idle
+released-calm (Receive a) = same-calm (Receive a)
+released-calm (Process r) = same-calm (Process r)
+released-calm (Answered r) = record { fewer = λ s t h. refl; was = λ x h. cc; begun = λ h. false-true h }
+released-calm (Transmit r) = same-calm (Transmit r)
 
 pub resume-valid : {e : Endpoint} → Valid e → Valid (resume e)
 unfolding resume
 resume-valid v =
     with-slots v
-    (both-slots resumedSlot (λ s f. released-facts (s .paused) (s .phase) f) (λ s f. released-calm (s .paused) (s .phase) f) (v .slots-valid))
+    (on-both-valid resumedSlot (λ s f. released-facts (s .paused) (s .phase) f) (λ s _. released-calm (s .phase)) (v .slots-valid))
 
 -- an assembly ends
 ended-facts : (source tag : ℕ) (s : Slot) → PhaseFacts (s .paused) (s .phase) → PhaseFacts (endedSlot source tag s .paused) (endedSlot source tag s .phase)
@@ -279,7 +259,7 @@ ended-calm source tag s =
 pub end-valid : {e : Endpoint} (source tag : ℕ) → Valid e → Valid (endAssembly e source tag)
 unfolding endAssembly
 end-valid source tag v =
-    with-slots v (both-slots (endedSlot source tag) (ended-facts source tag) (λ s _. ended-calm source tag s) (v .slots-valid))
+    with-slots v (on-both-valid (endedSlot source tag) (ended-facts source tag) (λ s _. ended-calm source tag s) (v .slots-valid))
 
 -- ---- the endpoint and its stores
 
@@ -304,16 +284,16 @@ put-store : {w : World} (i at : ℕ) (bytes : List ℕ) → at + length bytes �
 put-store {w} i at bytes h s = length-put (storeAt w i) at bytes (rw (store-at i s) h) ∙ store-at i s
 
 -- a response that settles
-settled-facts : (b : Bool) (r : Response) → r .sent ≡ 0 → Fits r → PhaseFacts b (settled b r) × (isQuiet (settled b r) ≡ true)
-settled-facts true r e f = ((refl, e, f), refl)
-settled-facts false r e f = ((rw e (omega (arith, f .least)), f), rw e refl)
+settled-facts : (b : Bool) (r : Response) → Fits r → PhaseFacts b (settled b r) × (isQuiet (settled b r) ≡ true)
+settled-facts true r f = ((refl, f), refl)
+settled-facts false r f = ((omega (arith, f .least), f), refl)
 
 pub responded-sound : {w : World} (i : ℕ) (r : Request) (body : List ℕ) → i ≤ 1 → 4 ≤ length body → length body ≤ 4216 → Sound w → Sound (responded w i r body)
 unfolding responded
 responded-sound {w} i r body is lo hi s =
     let n = length-response (r .kind) i body in
     let room : response-place + length (response (r .kind) i body) ≤ store-size = rw n (omega arith) in
-    let k = settled-facts (slotAt (w .endpoint) i .paused) (responseTo r body) refl (record { least = omega arith; most = omega arith }) in
+    let k = settled-facts (slotAt (w .endpoint) i .paused) (responseTo r body) (record { least = omega arith; most = omega arith }) in
     sound-endpoint (sound-store i _ s (put-store i response-place (response (r .kind) i body) room s))
     (kept-quiet i is (s .state) (withPhase (slotAt (w .endpoint) i) (settled (slotAt (w .endpoint) i .paused) (responseTo r body))) (k .0) (k .1))
 
@@ -336,16 +316,16 @@ clear-valid : {e : Endpoint} (i : ℕ) → i ≤ 1 → Valid e → Valid (clearF
 unfolding clearFlags
 clear-valid i h v = with-flags (busied-valid i h false v) zero-flags
 
-abbrev Left : Acted → Type 0
-Left a = Valid (a .endpoint)
+abbrev StillValid : Acted → Type 0
+StillValid a = Valid (a .endpoint)
 
 pub primitive-valid : {e : Endpoint} (opcode i : ℕ) (clear : Bool) → i ≤ 1 → Valid e → Valid (primitive e opcode i clear .endpoint)
 unfolding primitive abort
 primitive-valid {e} opcode i clear h v =
-    if-ind Left (eqb opcode 0) (λ _. pause-valid v)
+    if-ind StillValid (eqb opcode 0) (λ _. pause-valid v)
     (λ _.
-    if-ind Left (eqb opcode 1) (λ _. resume-valid v)
-    (λ _. if-ind Left (eqb opcode 2) (λ _. idled-valid i h v) (λ _. if-ind Valid clear (λ _. clear-valid i h v) (λ _. v))))
+    if-ind StillValid (eqb opcode 1) (λ _. resume-valid v)
+    (λ _. if-ind StillValid (eqb opcode 2) (λ _. idled-valid i h v) (λ _. if-ind Valid clear (λ _. clear-valid i h v) (λ _. v))))
 
 replied-valid : {e : Endpoint} (h : Header) (csi : ℕ) (body : List ℕ) → length body ≡ 4 → Valid e → Valid (replied e h csi body)
 replied-valid h csi body n v = with-reply (h .source) (h .tag) v (rw (length-response control csi body, n) refl)
@@ -380,8 +360,8 @@ sound-walk w₀ packet s₀ =
       busying = λ w i b s. sound-endpoint s (busied-valid i (b .slot-is) true (s .state));
       dropping = λ w i n _ g s. refuse (dropped w i) n (sound-endpoint s (idled-valid i (g .slot-is) (s .state)));
       failing = λ w i at j s. refuse _ 19 (let f = fill w i at j s in sound-endpoint f (idled-valid i (j .slot-is) (f .state)));
-      gaining = λ w i at j lo s. sound-endpoint (fill w i at j s) (awaited-valid i (grown w₀ packet at) (j .slot-is) (j .alone) lo (j .fits) (s .state));
-      entering = λ w i at j lo _ s. entered-sound i (grown w₀ packet at) _ (j .slot-is) lo (j .fits) (fill w i at j s);
+      gaining = λ w i at j _ lo s. sound-endpoint (fill w i at j s) (awaited-valid i (grown w₀ packet at) (j .slot-is) (j .alone) lo (j .fits) (s .state));
+      entering = λ w i at j _ lo _ s. entered-sound i (grown w₀ packet at) _ (j .slot-is) lo (j .fits) (fill w i at j s);
       controlling = λ w c s. sound-endpoint s (controlled-valid (fields packet) (messageHeader (payloadOf packet)) (payloadOf packet) (csi-most (payloadOf packet)) (s .state));
     }
   where
@@ -493,9 +473,7 @@ timeout-valid e i v =
 started-valid : (eid flags : ℕ) (t u : Ticket) → 8 ≤ eid → eid ≤ 254 → ValidFlags flags → Valid (started eid flags t u)
 started-valid eid flags t u lo hi f =
     record {
-      eid-least = lo;
-      eid-most = hi;
-      turn-most = omega arith;
+      numbers = record { eid-least = lo; eid-most = hi; turn-most = omega arith };
       slots-valid = two (fresh-valid 0 t) (fresh-valid 1 u) refl;
       flags-valid = f;
       reply-twelve = refl;
@@ -506,7 +484,7 @@ started-valid eid flags t u lo hi f =
 
 pub reset-valid : (e : Endpoint) → Valid e → DoneLeft (wasReset e)
 unfolding wasReset
-reset-valid e v = started-valid (e .eid) (2 ^ 14) _ _ (v .eid-least) (v .eid-most) (mask 14 refl refl refl)
+reset-valid e v = started-valid (e .eid) (2 ^ 14) _ _ (v .numbers .eid-least) (v .numbers .eid-most) (mask 14 refl refl refl)
 
 pub setup-valid : (eid : ℕ) → DoneLeft (wasSetUp eid)
 unfolding wasSetUp
@@ -518,27 +496,27 @@ setup-valid eid =
 -- ---- polling
 
 -- the slot whose packet goes is in Transmit, and the other slot's response is not begun
-pub record Chosen (e : Endpoint) (i : ℕ) (r : Response) : Type 0 where
+pub record Chosen (e : Endpoint) (i : ℕ) (r : Outgoing) : Type 0 where
   pub slot-is : i ≤ 1
   pub sends : slotAt e i .phase ≡ Transmit r
   pub first-of-two : isBegun (slotAt e (otherSlot i) .phase) ≡ true → ⊥
 
-data Picked (k : ℕ) (p : Phase) (other : Ready) (i : ℕ) (r : Response) : Type 0 where
+data Picked (k : ℕ) (p : Phase) (other : Ready) (i : ℕ) (r : Outgoing) : Type 0 where
   here : k ≡ i → p ≡ Transmit r → Picked k p other i r
   there : other ≡ From i r → Picked k p other i r
 
-sending-or : (k : ℕ) (p : Phase) (other : Ready) {i : ℕ} {r : Response} → sendingOr k p other ≡ From i r → Picked k p other i r
+sending-or : (k : ℕ) (p : Phase) (other : Ready) {i : ℕ} {r : Outgoing} → sendingOr k p other ≡ From i r → Picked k p other i r
 sending-or k Idle other e = there e
 sending-or k (Receive a) other e = there e
 sending-or k (Process q) other e = there e
 sending-or k (Answered q) other e = there e
 sending-or k (Transmit q) other e = here (cc) (cc)
 
-data Begun (k : ℕ) (p : Phase) (other : Ready) (i : ℕ) (r : Response) : Type 0 where
+data Begun (k : ℕ) (p : Phase) (other : Ready) (i : ℕ) (r : Outgoing) : Type 0 where
   here : k ≡ i → p ≡ Transmit r → isBegun p ≡ true → Begun k p other i r
   there : other ≡ From i r → isBegun p ≡ false → Begun k p other i r
 
-begun-or : (k : ℕ) (p : Phase) (other : Ready) {i : ℕ} {r : Response} → begunOr k p other ≡ From i r → Begun k p other i r
+begun-or : (k : ℕ) (p : Phase) (other : Ready) {i : ℕ} {r : Outgoing} → begunOr k p other ≡ From i r → Begun k p other i r
 begun-or k Idle other e = there e refl
 begun-or k (Receive a) other e = there e refl
 begun-or k (Process q) other e = there e refl
@@ -561,7 +539,7 @@ both-begun v a b =
     let zero′ = slot-facts 1 (omega arith) (v .slots-valid) .begun-turn b in
     omega (arith, one, zero′)
 
-pub chosen-at : (e : Endpoint) → Valid e → {i : ℕ} {r : Response} → chosen e ≡ From i r → Chosen e i r
+pub chosen-at : (e : Endpoint) → Valid e → {i : ℕ} {r : Outgoing} → chosen e ≡ From i r → Chosen e i r
 unfolding chosen
 chosen-at e v {i} {r} h = first (begun-or 0 (slotAt e 0 .phase) (begunOr 1 (slotAt e 1 .phase) turns) h)
   where
@@ -577,14 +555,11 @@ chosen-at e v {i} {r} h = first (begun-or 0 (slotAt e 0 .phase) (begunOr 1 (slot
     fourth : isBegun (slotAt e 0 .phase) ≡ false → isBegun (slotAt e 1 .phase) ≡ false
         → Picked (otherSlot (e .turn)) (slotAt e (otherSlot (e .turn)) .phase) Nothing i r → Chosen e i r
     fourth a b (here k p) = last (otherSlot (e .turn)) (other-most (e .turn)) a b k p
-    fourth a b (there n) = absurd (omega (arith, nothing n))
-      where
-        nothing : Nothing ≡ From i r → _≡_ {A = ℕ} 0 1
-        nothing n = cc
+    fourth a b (there n) = differ (cc n)
 
     third : isBegun (slotAt e 0 .phase) ≡ false → isBegun (slotAt e 1 .phase) ≡ false
         → Picked (e .turn) (slotAt e (e .turn) .phase) (sendingOr (otherSlot (e .turn)) (slotAt e (otherSlot (e .turn)) .phase) Nothing) i r → Chosen e i r
-    third a b (here k p) = last (e .turn) (v .turn-most) a b k p
+    third a b (here k p) = last (e .turn) (v .numbers .turn-most) a b k p
     third a b (there n) = fourth a b (sending-or (otherSlot (e .turn)) (slotAt e (otherSlot (e .turn)) .phase) Nothing n)
 
     second : isBegun (slotAt e 0 .phase) ≡ false → Begun 1 (slotAt e 1 .phase) turns i r → Chosen e i r
@@ -595,19 +570,16 @@ chosen-at e v {i} {r} h = first (begun-or 0 (slotAt e 0 .phase) (begunOr 1 (slot
     first (here k p b) = rw (sym k) (record { slot-is = omega arith; sends = p; first-of-two = λ g. both-begun v b g })
     first (there n a) = second a (begun-or 1 (slotAt e 1 .phase) turns n)
 
-pub ready-at : (e : Endpoint) → Valid e → {i : ℕ} {r : Response} → ready e ≡ From i r → Chosen e i r
+pub ready-at : (e : Endpoint) → Valid e → {i : ℕ} {r : Outgoing} → ready e ≡ From i r → Chosen e i r
 unfolding ready
-ready-at e v h = chosen-at e v (if-second (anyPaused e) (λ n. absurd (omega (arith, nothing n))) h .1)
-  where
-    nothing : {i : ℕ} {r : Response} → Nothing ≡ From i r → _≡_ {A = ℕ} 0 1
-    nothing n = cc
+ready-at e v h = chosen-at e v (if-second (anyPaused e) (λ n. differ (cc n)) h .1)
 
 -- a response that is not at its last packet has one left behind it
-more-left : (r : Response) → unit * r .sent < r .length → isLast r ≡ false → unit * (r .sent + 1) < r .length
+more-left : (r : Outgoing) → unit * r .sent < r .response .length → isLast r ≡ false → unit * (r .sent + 1) < r .response .length
 more-left r inside h =
-    let k = packets-bounds unit (r .length) in
-    let below : r .sent < packets unit (r .length) = k (r .sent) (omega arith) .1 inside in
-    k (r .sent + 1) (omega arith) .0 (omega (arith, eqb-false (r .sent + 1) (packets unit (r .length)) h))
+    let k = packets-bounds unit (r .response .length) in
+    let below : r .sent < packets unit (r .response .length) = k (r .sent) (omega arith) .1 inside in
+    k (r .sent + 1) (omega arith) .0 (omega (arith, eqb-false (r .sent + 1) (packets unit (r .response .length)) h))
 
 -- a slot that is not in Receive
 pub record Sending (s : Slot) : Type 0 where
@@ -615,7 +587,7 @@ pub record Sending (s : Slot) : Type 0 where
   pub left : (q : Phase) → apart (s .phase) q ≡ true
   pub right : (q : Phase) → apart q (s .phase) ≡ true
 
-after-packet : (s : Slot) (r : Response) → PhaseFacts (s .paused) (Transmit r) → Sending (afterPacket s r)
+after-packet : (s : Slot) (r : Outgoing) → PhaseFacts (s .paused) (Transmit r) → Sending (afterPacket s r)
 after-packet s r f =
     if-ind Sending (isLast r) (λ _. record { facts = refl; left = λ q. apart-left Idle q (λ a b. refl); right = λ q. refl })
     (λ h.
@@ -637,14 +609,12 @@ sent-slots (suc (suc n)) h w s v m = absurd (omega arith)
 abbrev PollLeft : Polled → Type 0
 PollLeft p = Valid (p .endpoint)
 
-pub command-valid : (w : World) (i : ℕ) (r : Response) (buffer : List ℕ) → Chosen (w .endpoint) i r → Valid (w .endpoint) → PollLeft (sentCommand w i r buffer)
+pub command-valid : (w : World) (i : ℕ) (r : Outgoing) (buffer : List ℕ) → Chosen (w .endpoint) i r → Valid (w .endpoint) → PollLeft (sentCommand w i r buffer)
 unfolding sentCommand
 command-valid w i r buffer c v =
     let turned : sentCommand w i r buffer .endpoint .turn ≡ otherSlot i = refl in
     record {
-      eid-least = v .eid-least;
-      eid-most = v .eid-most;
-      turn-most = rw turned (other-most i);
+      numbers = record { eid-least = v .numbers .eid-least; eid-most = v .numbers .eid-most; turn-most = rw turned (other-most i) };
       slots-valid =
           sent-slots i (c .slot-is) (v .slots-valid) _
           (after-packet (slotAt (w .endpoint) i) r (rw (c .sends) at (facts-at i (c .slot-is) v))) (c .first-of-two);
@@ -656,9 +626,7 @@ control-valid : (e : Endpoint) (buffer : List ℕ) → Valid e → PollLeft (sen
 unfolding sentControl
 control-valid e buffer v =
     record {
-      eid-least = v .eid-least;
-      eid-most = v .eid-most;
-      turn-most = v .turn-most;
+      numbers = v .numbers;
       slots-valid = v .slots-valid;
       flags-valid = v .flags-valid;
       reply-twelve = v .reply-twelve;

@@ -15,8 +15,10 @@ pub mod Delivery
 pub mod Numbers
 pub mod Arrives
 pub mod Refusals
+pub mod Grounds
 pub mod Stale
 pub mod Commands
 pub mod Replies
 pub mod Identity
 pub mod Pauses
+pub mod Gathered

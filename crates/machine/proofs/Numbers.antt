@@ -9,6 +9,7 @@ use lib.Dec.{eqb, leb, ltb}
 use lib.ListN.{length, take, drop}
 use lib.Seq.{take-append-seam}
 use borrow.Author.Tests.{ltb-true, ltb-false, lt-ltb, le-ltb, le-leb, lt-leb}
+use Rattle.lent.proofs.Choice.{differ}
 use Rattle.lent.specs.Choice.{if_then_else_}
 use Rattle.machine.specs.State.{World, outcome, ended, slotAt, withSlot, idled}
 use Rattle.machine.specs.Wire.{wrongStores}
@@ -20,16 +21,8 @@ use Rattle.machine.specs.Valid.{phased, Valid}
 use Rattle.machine.specs.Calls.{pollEvent, step}
 use Rattle.machine.specs.History.{phaseAt, pausedAt, isTransmit}
 use Rattle.machine.specs.Numbers.{isTaken, takeNumbers, TakeNumbers, rightSizes, completeIn, CompleteNumbers, isReceiving, timeoutNumber, TimeoutNumbers, isCommandReady, pollNumber, lengthOut, PollNumbers, SetUp, SetupNumbers}
-use Rattle.machine.specs.declared.Taking.{Taking}
-use Rattle.machine.specs.declared.Taking.the-variants.{Untaken, Taken}
-use Rattle.machine.specs.declared.Request.{Request}
-use Rattle.machine.specs.declared.Response.{Response}
-use Rattle.machine.specs.declared.Phase.{Phase}
-use Rattle.machine.specs.declared.Phase.the-variants.{Idle, Receive, Process, Answered, Transmit}
-use Rattle.machine.specs.declared.Endpoint.{Endpoint}
+use Rattle.machine.specs.Types.{Taking, Untaken, Taken, Request, Outgoing, Phase, Idle, Receive, Process, Answered, Transmit, Endpoint, Ready, Nothing, From}
 use Rattle.machine.specs.declared.PollAnswer.the-variants.{Refused, Nothing as Silent, Packet}
-use Rattle.machine.specs.declared.Ready.{Ready}
-use Rattle.machine.specs.declared.Ready.the-variants.{Nothing, From}
 use Rattle.machine.proofs.Keeps.{chosen-at}
 use Rattle.machine.proofs.Delivery.{chosen-some, sending-phase}
 
@@ -136,7 +129,7 @@ sending-chosen w v h = by (isTransmit (phaseAt w 0)) refl h
     by true e _ = let k = sending-phase (phaseAt w 0) e in chosen-some (w .endpoint) v 0 (omega arith) (k .0) (k .1)
     by false e f = let k = sending-phase (phaseAt w 1) f in chosen-some (w .endpoint) v 1 (omega arith) (k .0) (k .1)
 
-chosen-sending : (w : World) → Valid (w .endpoint) → {i : ℕ} {r : Response} → chosen (w .endpoint) ≡ From i r → (isTransmit (phaseAt w 0) || isTransmit (phaseAt w 1)) ≡ true
+chosen-sending : (w : World) → Valid (w .endpoint) → {i : ℕ} {r : Outgoing} → chosen (w .endpoint) ≡ From i r → (isTransmit (phaseAt w 0) || isTransmit (phaseAt w 1)) ≡ true
 chosen-sending w v {i} {r} e = let k = chosen-at (w .endpoint) v e in at i (k .slot-is) (k .sends)
   where
     at : (i : ℕ) → i ≤ 1 → phaseAt w i ≡ Transmit r → (isTransmit (phaseAt w 0) || isTransmit (phaseAt w 1)) ≡ true
@@ -161,19 +154,13 @@ ready-nothing w v = by (pausedAt w 0) (pausedAt w 1) (isTransmit (phaseAt w 0) |
     by false false true k e = absurd (k refl e)
     by false false false k e = refl
 
-ready-some : (w : World) → Valid (w .endpoint) → {i : ℕ} {r : Response} → ready (w .endpoint) ≡ From i r → isCommandReady w ≡ true
+ready-some : (w : World) → Valid (w .endpoint) → {i : ℕ} {r : Outgoing} → ready (w .endpoint) ≡ From i r → isCommandReady w ≡ true
 unfolding ready
 ready-some w v {i} {r} = by (pausedAt w 0) (pausedAt w 1) (isTransmit (phaseAt w 0) || isTransmit (phaseAt w 1)) (chosen-sending w v)
   where
-    nothing : {A : Type 0} → Nothing ≡ From i r → A
-    nothing n = absurd (omega (arith, zero-one n))
-      where
-        zero-one : Nothing ≡ From i r → _≡_ {A = ℕ} 0 1
-        zero-one n = cc
-
     by : (a b x : Bool) → (chosen (w .endpoint) ≡ From i r → x ≡ true) → _≡_ {A = Ready} (if a || b then Nothing else chosen (w .endpoint)) (From i r) → (x && (not a && not b)) ≡ true
-    by true b x k e = nothing e
-    by false true x k e = nothing e
+    by true b x k e = differ (cc e)
+    by false true x k e = differ (cc e)
     by false false x k e = rw (k e) refl
 
 -- the length that is told is the packet's

@@ -13,12 +13,12 @@ use Rattle.lent.specs.Bytes.{byteAt, isSet}
 use Rattle.lent.proofs.Choice.{if-ind, false-true}
 use Rattle.mctp.specs.Header.{fields, payloadOf}
 use Rattle.nvme_mi.specs.Check.{checkRight}
-use Rattle.nvme_mi.specs.Message.{messageHeader, commandFault, controlFault}
+use Rattle.nvme_mi.specs.Message.{messageHeader, commandFault, controlFault, smallest}
 use Rattle.nvme_mi.specs.Response.{faultBody}
 use Rattle.nvme_mi.specs.declared.Fault.{Fault}
 use Rattle.nvme_mi.specs.declared.Fault.the-variants.{NoFault, Parameter, Failure}
 use Rattle.machine.specs.State.{World, Outcome, outcome, slot, slotAt, storeAt, withSlot, withEndpoint, onSlot, withPhase, withPaused, withBusy, idled, isIdle, settled}
-use Rattle.machine.specs.Wire.{unit, smallest, opcodeOf, clearsFlags, wrongStores}
+use Rattle.machine.specs.Wire.{unit, opcodeOf, clearsFlags, wrongStores}
 use Rattle.machine.specs.Control.{pausedSlot, pause, abort, clearFlags, primitive, controlledBy, controlled}
 use Rattle.machine.specs.Process.{processing, responseTo, responded, respondedAtOnce, pausedIf, entered}
 use Rattle.machine.specs.Receive.{refused, refusedBusy, dropped, gathers, endedSlot, endAssembly, received}
@@ -26,22 +26,11 @@ use Rattle.machine.specs.Finish.{isSlot, takenRow, takenFrom, taken, isB
 use Rattle.machine.specs.Poll.{otherSlot, isLast, afterPacket}
 use Rattle.machine.specs.Valid.{Valid, Sound, PhaseFacts}
 use Rattle.machine.specs.Calls.{Call, receive, take!, read, complete, poll, timeout, reset, Stepped, step}
-use Rattle.machine.specs.History.{Log, History, hasSom, sourceOf, messageTagOf, bytesFrom4, phaseAt, pausedAt, receivesFrom, isFor, requestWith, isPrimitive, run, start}
+use Rattle.machine.specs.History.{Trace, History, hasSom, sourceOf, messageTagOf, bytesFrom4, phaseAt, pausedAt, receivesFrom, isFor, requestWith, isPrimitive, run, start}
 use Rattle.machine.specs.Demands.{isIdleNow}
 use Rattle.machine.specs.Replies.{slotFound, actedOn}
 use Rattle.machine.specs.Pauses.{pauses, resumes, restarts, flagAfter, FlagsMove}
-use Rattle.machine.specs.declared.Ticket.{Ticket}
-use Rattle.machine.specs.declared.Taking.{Taking}
-use Rattle.machine.specs.declared.Taking.the-variants.{Untaken, Taken}
-use Rattle.machine.specs.declared.Request.{Request}
-use Rattle.machine.specs.declared.Response.{Response}
-use Rattle.machine.specs.declared.Phase.{Phase}
-use Rattle.machine.specs.declared.Phase.the-variants.{Idle, Receive, Process, Answered, Transmit}
-use Rattle.machine.specs.declared.Slot.{Slot}
-use Rattle.machine.specs.declared.Endpoint.{Endpoint}
-use Rattle.machine.specs.declared.Done.{Done}
-use Rattle.machine.specs.declared.Acted.{Acted}
-use Rattle.machine.specs.declared.TakeDone.{TakeDone}
+use Rattle.machine.specs.Types.{Ticket, Taking, Untaken, Taken, Request, Response, Phase, Idle, Receive, Process, Answered, Transmit, Slot, Endpoint, Done, TakeDone, Acted}
 use Rattle.machine.proofs.Slots.{facts-at, other-most}
 use Rattle.machine.proofs.Receiving.{Joining, filled, grown, whole, Controls, Busy, Gathering, Ground, in-table, of-no-slot, Break, in-sequence, in-size, in-total, Walk, csi-most, receives-gathers, walked}
 use Rattle.machine.proofs.Primitives.{is-primitive, acting}
@@ -168,14 +157,14 @@ paused-so s = by (isIdle (s .phase)) refl
 
 -- ---- receiving
 
-module _ (w₀ : World) (p : List ℕ) (log : ℕ → Log) (s₀ : Sound w₀)
-    (fits : (j : ℕ) → j ≤ 1 → Fit (slotAt (w₀ .endpoint) j) (storeAt w₀ j) (log j)) where
+module _ (w₀ : World) (p : List ℕ) (trace : ℕ → Trace) (s₀ : Sound w₀)
+    (fits : (j : ℕ) → j ≤ 1 → Fit (slotAt (w₀ .endpoint) j) (storeAt w₀ j) (trace j)) where
   -- the packet ends an assembly of slot j, and completes a command with CIAP 1
   abbrev ends : ℕ → Bool
   ends j = hasSom p && receivesFrom (sourceOf p) (messageTagOf p) (phaseAt w₀ j)
 
   abbrev ciapOf : ℕ → Bool
-  ciapOf i = isFor i p w₀ && isSet (byteAt (requestWith p (log i)) 2) 1
+  ciapOf i = isFor i p w₀ && isSet (byteAt (requestWith p (trace i)) 2) 1
 
   abbrev ciaps : Bool
   ciaps = ciapOf 0 || ciapOf 1
@@ -186,7 +175,7 @@ module _ (w₀ : World) (p : List ℕ) (log : ℕ → Log) (s₀ : Sound w₀)
     ended : t .phase ≡ Idle → t .paused ≡ false → ends j ≡ true → Way j s t
 
   record On (w : World) : Type 0 where
-    mid : Mid w₀ p log s₀ fits w
+    mid : Mid w₀ p trace s₀ fits w
     ways : (j : ℕ) → j ≤ 1 → Way j (slotAt (w₀ .endpoint) j) (slotAt (w .endpoint) j)
 
   -- the flag of a slot that is not Idle, after answer n
@@ -242,13 +231,13 @@ module _ (w₀ : World) (p : List ℕ) (log : ℕ → Log) (s₀ : Sound w₀)
 
   -- where the way begins
   start-on : fields p .som ≡ false → On w₀
-  start-on som = record { mid = start-mid w₀ p log s₀ fits; ways = λ j js. kept refl (rw som refl) }
+  start-on som = record { mid = start-mid w₀ p trace s₀ fits; ways = λ j js. kept refl (rw som refl) }
 
   ended-on : fields p .som ≡ true → On (withEndpoint w₀ (endAssembly (w₀ .endpoint) (fields p .source) (fields p .tag)))
   unfolding endAssembly
   ended-on som =
       record {
-        mid = unfold endAssembly in (ended-mid w₀ p log s₀ fits som);
+        mid = unfold endAssembly in (ended-mid w₀ p trace s₀ fits som);
         ways = λ j js. rw (slot-both (endedSlot (fields p .source) (fields p .tag)) (w₀ .endpoint) j js) (by j (slotAt (w₀ .endpoint) j) refl);
       }
     where
@@ -292,9 +281,9 @@ module _ (w₀ : World) (p : List ℕ) (log : ℕ → Log) (s₀ : Sound w₀)
   -- the command's CIAP is that of the joined payloads
   ciap-is : (w : World) (i at : ℕ) → Joining w₀ p w i at → On w → ciaps ≡ messageHeader (whole w₀ p w i at) .ciap
   ciap-is w i at j on =
-      let text = front w₀ p log s₀ fits w i at (on .mid) j in
-      let mine : ciapOf i ≡ messageHeader (whole w₀ p w i at) .ciap = rw (for-this w₀ p log s₀ fits w i at (on .mid) j, text) refl in
-      let other : ciapOf (otherSlot i) ≡ false = rw (for-that w₀ p log s₀ fits w i at (on .mid) j) refl in
+      let text = front w₀ p trace s₀ fits w i at (on .mid) j in
+      let mine : ciapOf i ≡ messageHeader (whole w₀ p w i at) .ciap = rw (for-this w₀ p trace s₀ fits w i at (on .mid) j, text) refl in
+      let other : ciapOf (otherSlot i) ≡ false = rw (for-that w₀ p trace s₀ fits w i at (on .mid) j) refl in
       either i (j .slot-is) (messageHeader (whole w₀ p w i at) .ciap) mine other
     where
       either : (i : ℕ) → i ≤ 1 → (b : Bool) → ciapOf i ≡ b → ciapOf (otherSlot i) ≡ false → ciaps ≡ b
@@ -304,10 +293,10 @@ module _ (w₀ : World) (p : List ℕ) (log : ℕ → Log) (s₀ : Sound w₀)
 
   module _ (w : World) (i at : ℕ) (j : Joining w₀ p w i at) (lo : smallest ≤ at + length (payloadOf p)) (on : On w) where
     abbrev first-state : Endpoint
-    first-state = e₁ w₀ p log s₀ fits w i at j lo (on .mid)
+    first-state = e₁ w₀ p trace s₀ fits w i at j lo (on .mid)
 
     abbrev entry-state : Endpoint
-    entry-state = e₂ w₀ p log s₀ fits w i at j lo (on .mid)
+    entry-state = e₂ w₀ p trace s₀ fits w i at j lo (on .mid)
 
     abbrev ciap : Bool
     ciap = messageHeader (whole w₀ p w i at) .ciap
@@ -321,10 +310,10 @@ module _ (w₀ : World) (p : List ℕ) (log : ℕ → Log) (s₀ : Sound w₀)
       where
         at-slot : Which i k → slotAt first-state k .paused ≡ (pausedAt w₀ k && not (ends k))
         at-slot (this q) =
-            rw (q, this-at w₀ p log s₀ fits w i at j lo (on .mid))
-            (carried w on i (j .slot-is) (processing (slotAt (w .endpoint) i) (command w₀ p log s₀ fits w i at j lo (on .mid))) refl)
+            rw (q, this-at w₀ p trace s₀ fits w i at j lo (on .mid))
+            (carried w on i (j .slot-is) (processing (slotAt (w .endpoint) i) (command w₀ p trace s₀ fits w i at j lo (on .mid))) refl)
         at-slot (that q) =
-            rw (q, that-at w₀ p log s₀ fits w i at j lo (on .mid)) (carried w on (otherSlot i) (other-most i) (slotAt (w .endpoint) (otherSlot i)) refl)
+            rw (q, that-at w₀ p trace s₀ fits w i at j lo (on .mid)) (carried w on (otherSlot i) (other-most i) (slotAt (w .endpoint) (otherSlot i)) refl)
 
     answered-moves : (k : ℕ) → k ≤ 1 → (r : Response)
         → isIdleNow (slotAt (withSlot entry-state i (withPhase (slotAt entry-state i) (settled (slotAt entry-state i .paused) r))) k .phase) ≡ false
@@ -336,24 +325,24 @@ module _ (w₀ : World) (p : List ℕ) (log : ℕ → Log) (s₀ : Sound w₀)
         s = withPhase (slotAt entry-state i) (settled (slotAt entry-state i .paused) r)
 
         v : Valid entry-state
-        v = e₂-valid w₀ p log s₀ fits w i at j lo (on .mid)
+        v = e₂-valid w₀ p trace s₀ fits w i at j lo (on .mid)
 
         by : Which i k → isIdleNow (slotAt (withSlot entry-state i (withPhase (slotAt entry-state i) (settled (slotAt entry-state i .paused) r))) k .phase) ≡ false
             → slotAt (withSlot entry-state i (withPhase (slotAt entry-state i) (settled (slotAt entry-state i .paused) r))) k .paused
             ≡ (if ciap then true else pausedAt w₀ k && not (ends k))
         by (this q) =
-            rw (q, slot-this i (j .slot-is) v s) (λ _. paused-entry ciap i (j .slot-is) (ap isIdleNow (in-process w₀ p log s₀ fits w i at j lo (on .mid))))
+            rw (q, slot-this i (j .slot-is) v s) (λ _. paused-entry ciap i (j .slot-is) (ap isIdleNow (in-process w₀ p trace s₀ fits w i at j lo (on .mid))))
         by (that q) = rw (q, slot-that i (j .slot-is) v s) (paused-entry ciap (otherSlot i) (other-most i))
 
     -- a response at once moves no flag
     at-once-moves : (f : Fault) (k : ℕ) → k ≤ 1
-        → isIdleNow (phaseAt (respondedAtOnce (w₂ w₀ p log s₀ fits w i at j lo (on .mid)) i (command w₀ p log s₀ fits w i at j lo (on .mid)) f) k) ≡ false
-        → pausedAt (respondedAtOnce (w₂ w₀ p log s₀ fits w i at j lo (on .mid)) i (command w₀ p log s₀ fits w i at j lo (on .mid)) f) k
+        → isIdleNow (phaseAt (respondedAtOnce (w₂ w₀ p trace s₀ fits w i at j lo (on .mid)) i (command w₀ p trace s₀ fits w i at j lo (on .mid)) f) k) ≡ false
+        → pausedAt (respondedAtOnce (w₂ w₀ p trace s₀ fits w i at j lo (on .mid)) i (command w₀ p trace s₀ fits w i at j lo (on .mid)) f) k
         ≡ (if ciap then true else pausedAt w₀ k && not (ends k))
     unfolding responded
     at-once-moves NoFault k ks n = paused-entry ciap k ks n
-    at-once-moves (Parameter byte bit) k ks n = answered-moves k ks (responseTo (command w₀ p log s₀ fits w i at j lo (on .mid)) (faultBody (Parameter byte bit))) n
-    at-once-moves (Failure status) k ks n = answered-moves k ks (responseTo (command w₀ p log s₀ fits w i at j lo (on .mid)) (faultBody (Failure status))) n
+    at-once-moves (Parameter byte bit) k ks n = answered-moves k ks (responseTo (command w₀ p trace s₀ fits w i at j lo (on .mid)) (faultBody (Parameter byte bit))) n
+    at-once-moves (Failure status) k ks n = answered-moves k ks (responseTo (command w₀ p trace s₀ fits w i at j lo (on .mid)) (faultBody (Failure status))) n
 
   enter : (w : World) (i at : ℕ) → Joining w₀ p w i at → smallest ≤ at + length (payloadOf p) → checkRight (whole w₀ p w i at) ≡ true → On w
       → Moves (outcome 1 (entered (filled w₀ p w i at) i (grown w₀ p at) (messageHeader (whole w₀ p w i at))))
@@ -409,8 +398,8 @@ module _ (w₀ : World) (p : List ℕ) (log : ℕ → Log) (s₀ : Sound w₀)
           busying = busying;
           dropping = dropping;
           failing = failing;
-          gaining = gain;
-          entering = enter;
+          gaining = λ w i at j _ lo m. gain w i at j lo m;
+          entering = λ w i at j _ lo right m. enter w i at j lo right m;
           controlling = control;
         }
 
@@ -486,7 +475,7 @@ flags-so : (h : History) → Good h → (c : Call) (i : ℕ) → i ≤ 1
     ≡ flagAfter (phaseAt (step c (h .world) .world) i) (pauses c h (step c (h .world) .event)) (resumes c h)
     (pausedAt (h .world) i && not (restarts i c (h .world) (step c (h .world) .event)))
 unfolding step
-flags-so h g (receive p) i is = received-told (h .world) p (h .log) (g .sound) (g .fits) i is
+flags-so h g (receive p) i is = received-told (h .world) p (h .trace) (g .sound) (g .fits) i is
 flags-so h g (take! j) i is = quiet-told (h .world) _ (step-sound (take! j) (h .world) (g .sound)) (taken-flagged (h .world .endpoint) (g .sound .state) j) i is
 flags-so h g (read j) i is = quiet-told (h .world) _ (step-sound (read j) (h .world) (g .sound)) (λ k ks _. refl) i is
 flags-so h g (complete j t body) i is =

@@ -1,8 +1,9 @@
 -- One slot and its store, by number: what a change of the state or of a store leaves at the same place and at the other.
 -- Assumes nothing.
-use Prim.Native.Nat.{ℕ, zero, suc, _+_, _-_, _*_, _≤_, _<_}
-use mathlib.Core.Path.{_≡_, refl, _∙_}
-use mathlib.Core.List.{List, _∷_, _++_}
+use Prim.Native.Nat.{ℕ, zero, suc, _+_, _≤_}
+use mathlib.Core.Path.{_≡_, refl, ap}
+use mathlib.Core.Bool.{Bool}
+use mathlib.Core.List.{List, _++_}
 use native.Mathlib.Omega.{arith}
 use lib.ListN.{length, take, drop, getD, set, length-take, length-append}
 use lib.Seq.{take-at}
@@ -10,8 +11,30 @@ use Rattle.lent.specs.Bytes.{put}
 use Rattle.machine.specs.State.{World, fresh, ticket, slotAt, storeAt, withSlot, withStore, onBoth}
 use Rattle.machine.specs.Poll.{otherSlot}
 use Rattle.machine.specs.Valid.{ValidSlots, two, Valid}
-use Rattle.machine.specs.declared.Slot.{Slot}
-use Rattle.machine.specs.declared.Endpoint.{Endpoint}
+use Rattle.machine.specs.Types.{Slot, Endpoint}
+
+-- ---- what most steps leave alone: the EID, the turn, and whether the last packet was control
+
+pub record Framed : Type 0 where
+  pub eid : ℕ
+  pub turn : ℕ
+  pub last : Bool
+
+abbrev pub framed : Endpoint → Framed
+framed e = record { eid = e .eid; turn = e .turn; last = e .«last_control» }
+
+-- a step that leaves it: `refl` where it computes, and one after the other by `∙`
+abbrev pub Frame : Endpoint → Endpoint → Type 0
+Frame e f = framed f ≡ framed e
+
+pub frame-eid : (e f : Endpoint) → Frame e f → f .eid ≡ e .eid
+frame-eid e f k = ap (λ (x : Framed). x .eid) k
+
+pub frame-turn : (e f : Endpoint) → Frame e f → f .turn ≡ e .turn
+frame-turn e f k = ap (λ (x : Framed). x .turn) k
+
+pub frame-last : (e f : Endpoint) → Frame e f → f .«last_control» ≡ e .«last_control»
+frame-last e f k = ap (λ (x : Framed). x .last) k
 
 -- of two slots, a number is one or the other
 pub data Which (i j : ℕ) : Type 0 where

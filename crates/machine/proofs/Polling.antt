@@ -1,16 +1,16 @@
--- What a poll does: the three things that can happen, and what each does to the slots and their logs.
+-- What a poll does: the three things that can happen, and what each does to the slots and their traces.
 -- Assumes nothing.
-use Prim.Native.Nat.{ℕ, _+_, _-_, _*_, _/_, _%_, _^_, _≤_, _<_}
+use Prim.Native.Nat.{ℕ, _+_, _*_, _≤_}
 use mathlib.Core.Path.{_≡_, refl, sym, ap, _∙_}
 use mathlib.Core.Bool.{Bool, true, false, not, _&&_, _||_}
-use mathlib.Core.List.{List, _∷_, _++_}
+use mathlib.Core.List.{List, _++_}
 use native.Mathlib.Omega.{arith}
 use lib.Dec.{eqb, leb, ltb}
 use lib.ListN.{length, take, drop}
 use lib.Seq.{take-append-seam}
 use borrow.Author.Tests.{eq-eqb, ne-eqb, ltb-true, ltb-false, leb-true, le-leb, not-true}
 use Rattle.lent.specs.Choice.{if_then_else_}
-use Rattle.lent.proofs.Choice.{if-ind, if-second, false-true, and-both}
+use Rattle.lent.proofs.Choice.{if-ind, if-second, false-true, and-both, differ}
 use Rattle.mctp.specs.Cut.{packets, payload, packet}
 use Rattle.mctp.proofs.Laws.{payload-next}
 use Rattle.machine.specs.State.{World, slotAt, storeAt, withSlot, withEndpoint, replySent, packetSent}
@@ -18,14 +18,9 @@ use Rattle.machine.specs.Wire.{unit, packet-room}
 use Rattle.machine.specs.Poll.{Polled, otherSlot, chosen, anyPaused, ready, replyFirst, isLast, advanced, afterPacket, controlPacket, commandPacket, sentControl, sentCommand, polledBy, polled}
 use Rattle.machine.specs.Valid.{Valid, Sound}
 use Rattle.machine.specs.Calls.{poll, number, handed-out, Stepped, stepped, byPoll, step}
-use Rattle.machine.specs.History.{Log, phaseAt, pausedAt, isTransmit, moved, sending, transmitted, logAfter, counts}
+use Rattle.machine.specs.History.{Trace, phaseAt, pausedAt, isTransmit, moved, sending, transmitted, traceAfter, counts}
 use Rattle.machine.specs.Demands.{isProcess}
-use Rattle.machine.specs.declared.Response.{Response}
-use Rattle.machine.specs.declared.Phase.{Phase}
-use Rattle.machine.specs.declared.Phase.the-variants.{Idle, Receive, Process, Answered, Transmit}
-use Rattle.machine.specs.declared.Slot.{Slot}
-use Rattle.machine.specs.declared.Ready.{Ready}
-use Rattle.machine.specs.declared.Ready.the-variants.{Nothing, From}
+use Rattle.machine.specs.Types.{Outgoing, Phase, Idle, Receive, Process, Answered, Transmit, Slot, Ready, Nothing, From}
 use Rattle.machine.proofs.Slots.{other-most}
 use Rattle.machine.proofs.Receiving.{right-stores}
 use Rattle.machine.proofs.Keeps.{Chosen, chosen-at}
@@ -42,7 +37,7 @@ pub data PollCase (w : World) (buffer : List ℕ) : Stepped → Type 0 where
       → (counts (poll buffer) w ≡ true → (chosen (w .endpoint) ≡ Nothing → ⊥) → w .endpoint .«last_control» ≡ false)
       → PollCase w buffer (stepped (handed-out (controlPacket (w .endpoint))) (withEndpoint w (replySent (w .endpoint))))
   -- a command packet goes
-  sends : (i : ℕ) (r : Response) → chosen (w .endpoint) ≡ From i r → counts (poll buffer) w ≡ true
+  sends : (i : ℕ) (r : Outgoing) → chosen (w .endpoint) ≡ From i r → counts (poll buffer) w ≡ true
       → PollCase w buffer
       (stepped (handed-out (commandPacket w i r)) (withEndpoint w (packetSent (withSlot (w .endpoint) i (afterPacket (slotAt (w .endpoint) i) r)) (otherSlot i))))
 
@@ -79,11 +74,8 @@ poll-case w buffer s =
         go true f k q = false-true (sym k ∙ f)
         go false f k q = q
 
-    nothing : {A : Type 0} {i : ℕ} {r : Response} → Nothing ≡ From i r → A
-    nothing n = absurd (omega (arith, zero-one n))
-      where
-        zero-one : {i : ℕ} {r : Response} → Nothing ≡ From i r → _≡_ {A = ℕ} 0 1
-        zero-one n = cc
+    nothing : {A : Type 0} {i : ℕ} {r : Outgoing} → Nothing ≡ From i r → A
+    nothing n = differ (cc n)
 
     control-goes : w .endpoint .«reply_waits» ≡ true
         → (counts (poll buffer) w ≡ true → (chosen (w .endpoint) ≡ Nothing → ⊥) → w .endpoint .«last_control» ≡ false) → After (sentControl (w .endpoint) buffer)
@@ -91,10 +83,10 @@ poll-case w buffer s =
         unfold sentControl in
         (rw (take-append-seam (controlPacket (w .endpoint)) (drop (length (controlPacket (w .endpoint))) buffer)) (replies a b))
 
-    found : {i : ℕ} {r : Response} → ready (w .endpoint) ≡ From i r → ((pausedAt w 0 || pausedAt w 1) ≡ false) × (chosen (w .endpoint) ≡ From i r)
+    found : {i : ℕ} {r : Outgoing} → ready (w .endpoint) ≡ From i r → ((pausedAt w 0 || pausedAt w 1) ≡ false) × (chosen (w .endpoint) ≡ From i r)
     found e = unfold ready in (if-second (anyPaused (w .endpoint)) nothing e)
 
-    command-goes : (i : ℕ) (r : Response) → chosen (w .endpoint) ≡ From i r → counts (poll buffer) w ≡ true → After (sentCommand w i r buffer)
+    command-goes : (i : ℕ) (r : Outgoing) → chosen (w .endpoint) ≡ From i r → counts (poll buffer) w ≡ true → After (sentCommand w i r buffer)
     command-goes i r e c =
         unfold sentCommand in (rw (take-append-seam (commandPacket w i r) (drop (length (commandPacket w i r)) buffer)) (sends i r e c))
 
@@ -107,7 +99,7 @@ poll-case w buffer s =
         (λ a. let b = and-both (w .endpoint .«reply_waits») (not (w .endpoint .«last_control»)) a in control-goes (b .0) (λ c n. not-true (w .endpoint .«last_control») (b .1)))
         (λ _. command-goes i r (k .1) (rw (le-leb 68 (length buffer) (ltb-false (length buffer) packet-room room), false-both (pausedAt w 0) (pausedAt w 1) (k .0)) refl))
 
--- ---- what the log gains of a packet
+-- ---- what the trace gains of a packet
 
 pub moved-same : (p : Phase) → moved p p ≡ false
 moved-same Idle = refl
@@ -121,36 +113,36 @@ not-and true = refl
 not-and false = refl
 
 -- a slot that did not move
-pub unmoved : (p q : Phase) (bytes : List ℕ) (l : Log) → q ≡ p → transmitted p q (handed-out bytes) l ≡ l
+pub unmoved : (p q : Phase) (bytes : List ℕ) (l : Trace) → q ≡ p → transmitted p q (handed-out bytes) l ≡ l
 unmoved p q bytes l e = rw (e, not-and (isTransmit p), moved-same p) refl
 
 -- the slot whose packet went
 -- a phase that slot i's packet leads to
-pub data Onward (r : Response) : Phase → Type 0 where
+pub data Onward (r : Outgoing) : Phase → Type 0 where
   done : Onward r Idle
   more : Onward r (Transmit (advanced r))
 
-pub onward : (s : Slot) (r : Response) → Onward r (afterPacket s r .phase)
+pub onward : (s : Slot) (r : Outgoing) → Onward r (afterPacket s r .phase)
 onward s r = if-ind (λ (x : Slot). Onward r (x .phase)) (isLast r) (λ _. done) (λ _. more)
 
 step-differs : (n : ℕ) → eqb (n + 1) n ≡ false
 step-differs n = ne-eqb (n + 1) n (λ e. omega arith)
 
-pub onward-moves : {r : Response} {q : Phase} → Onward r q → moved (Transmit r) q ≡ true
+pub onward-moves : {r : Outgoing} {q : Phase} → Onward r q → moved (Transmit r) q ≡ true
 onward-moves done = refl
 onward-moves {r} more = rw (step-differs (r .sent)) refl
 
-pub onward-logs : {r : Response} {q : Phase} (bytes : List ℕ) (l : Log) → Onward r q
+pub onward-traces : {r : Outgoing} {q : Phase} (bytes : List ℕ) (l : Trace) → Onward r q
     → transmitted (Transmit r) q (handed-out bytes) l ≡ sending l (l .packets + 1) (l .payloads ++ drop 4 bytes)
-onward-logs bytes l done = refl
-onward-logs {r} bytes l more = rw (step-differs (r .sent)) refl
+onward-traces bytes l done = refl
+onward-traces {r} bytes l more = rw (step-differs (r .sent)) refl
 
-onward-process : {A : Type 0} {r : Response} {q : Phase} → Onward r q → isProcess q ≡ true → A
+onward-process : {A : Type 0} {r : Outgoing} {q : Phase} → Onward r q → isProcess q ≡ true → A
 onward-process done h = false-true h
 onward-process more h = false-true h
 
 -- the payloads and one more
-module _ (w : World) (i : ℕ) (r : Response) (l : Log) (g : Going r (storeAt w i) l) where
+module _ (w : World) (i : ℕ) (r : Outgoing) (l : Trace) (g : Going r (storeAt w i) l) where
   pub payload-of : drop 4 (commandPacket w i r) ≡ payload unit (l .response) (r .sent)
   unfolding packet
   payload-of = rw (g .full .held) refl
@@ -158,10 +150,10 @@ module _ (w : World) (i : ℕ) (r : Response) (l : Log) (g : Going r (storeAt w 
   pub joined : l .payloads ++ drop 4 (commandPacket w i r) ≡ take (unit * (r .sent + 1)) (l .response)
   joined = rw (payload-of, g .paid) (payload-next unit (l .response) (r .sent))
 
-  abbrev pub sentLog : Log
-  sentLog = sending l (l .packets + 1) (l .payloads ++ drop 4 (commandPacket w i r))
+  abbrev pub sentTrace : Trace
+  sentTrace = sending l (l .packets + 1) (l .payloads ++ drop 4 (commandPacket w i r))
 
-  onward-fits : {q : Phase} → Onward r q → FitP q (storeAt w i) sentLog
+  onward-fits : {q : Phase} → Onward r q → FitP q (storeAt w i) sentTrace
   onward-fits done = tt
   onward-fits more =
       record {
@@ -172,27 +164,27 @@ module _ (w : World) (i : ℕ) (r : Response) (l : Log) (g : Going r (storeAt w 
 
 -- ---- the fit after a poll
 
-pub record PollKept (s t : Slot) (store : List ℕ) (l m : Log) : Type 0 where
+pub record PollKept (s t : Slot) (store : List ℕ) (l m : Trace) : Type 0 where
   pub fit : Fit t store m
   pub entry : Entry (s .phase) (t .phase) l m
 
-module _ (w : World) (buffer : List ℕ) (log : ℕ → Log) (s₀ : Sound w) (fits : (j : ℕ) → j ≤ 1 → Fit (slotAt (w .endpoint) j) (storeAt w j) (log j)) where
+module _ (w : World) (buffer : List ℕ) (trace : ℕ → Trace) (s₀ : Sound w) (fits : (j : ℕ) → j ≤ 1 → Fit (slotAt (w .endpoint) j) (storeAt w j) (trace j)) where
   abbrev KeptAt : Stepped → ℕ → Type 0
-  KeptAt s j = PollKept (slotAt (w .endpoint) j) (slotAt (s .world .endpoint) j) (storeAt (s .world) j) (log j) (logAfter j (poll buffer) w s (log j))
+  KeptAt s j = PollKept (slotAt (w .endpoint) j) (slotAt (s .world .endpoint) j) (storeAt (s .world) j) (trace j) (traceAfter j (poll buffer) w s (trace j))
 
-  same-kept : (j : ℕ) → j ≤ 1 → (m : Log) → m ≡ log j → PollKept (slotAt (w .endpoint) j) (slotAt (w .endpoint) j) (storeAt w j) (log j) m
+  same-kept : (j : ℕ) → j ≤ 1 → (m : Trace) → m ≡ trace j → PollKept (slotAt (w .endpoint) j) (slotAt (w .endpoint) j) (storeAt w j) (trace j) m
   same-kept j js m e = rw e (record { fit = fits j js; entry = stayed refl (λ h. (h, refl)) })
 
   -- the slot whose packet went
-  sent-kept : (i : ℕ) (r : Response) → i ≤ 1 → phaseAt w i ≡ Transmit r
-      → PollKept (slotAt (w .endpoint) i) (afterPacket (slotAt (w .endpoint) i) r) (storeAt w i) (log i)
-      (transmitted (phaseAt w i) (afterPacket (slotAt (w .endpoint) i) r .phase) (handed-out (commandPacket w i r)) (log i))
+  sent-kept : (i : ℕ) (r : Outgoing) → i ≤ 1 → phaseAt w i ≡ Transmit r
+      → PollKept (slotAt (w .endpoint) i) (afterPacket (slotAt (w .endpoint) i) r) (storeAt w i) (trace i)
+      (transmitted (phaseAt w i) (afterPacket (slotAt (w .endpoint) i) r .phase) (handed-out (commandPacket w i r)) (trace i))
   sent-kept i r is p =
-      let g : Going r (storeAt w i) (log i) = rw p at (fits i is .phase-fits) in
+      let g : Going r (storeAt w i) (trace i) = rw p at (fits i is .phase-fits) in
       let o = onward (slotAt (w .endpoint) i) r in
-      rw (p, onward-logs (commandPacket w i r) (log i) o)
+      rw (p, onward-traces (commandPacket w i r) (trace i) o)
       (record {
-        fit = record { phase-fits = onward-fits w i r (log i) g o; ticket-is = same-ticket ∙ fits i is .ticket-is };
+        fit = record { phase-fits = onward-fits w i r (trace i) g o; ticket-is = same-ticket ∙ fits i is .ticket-is };
         entry = stayed refl (λ h. onward-process o h);
       })
     where
@@ -200,8 +192,8 @@ module _ (w : World) (buffer : List ℕ) (log : ℕ → Log) (s₀ : Sound w) (f
       same-ticket = if-ind (λ (x : Slot). x .ticket .0 ≡ slotAt (w .endpoint) i .ticket .0) (isLast r) (λ _. refl) (λ _. refl)
 
   kept-in : {s : Stepped} → PollCase w buffer s → (j : ℕ) → j ≤ 1 → KeptAt s j
-  kept-in (still n _) j js = same-kept j js _ (quiet-same (phaseAt w j) (phaseAt w j) n (log j) refl)
-  kept-in (replies _ _) j js = same-kept j js _ (unmoved (phaseAt w j) (phaseAt w j) (controlPacket (w .endpoint)) (log j) refl)
+  kept-in (still n _) j js = same-kept j js _ (quiet-same (phaseAt w j) (phaseAt w j) n (trace j) refl)
+  kept-in (replies _ _) j js = same-kept j js _ (unmoved (phaseAt w j) (phaseAt w j) (controlPacket (w .endpoint)) (trace j) refl)
   kept-in (sends i r e _) j js = at (chosen-at (w .endpoint) (s₀ .state) e)
     where
       at : Chosen (w .endpoint) i r
@@ -211,12 +203,12 @@ module _ (w : World) (buffer : List ℕ) (log : ℕ → Log) (s₀ : Sound w) (f
           v : Valid (w .endpoint)
           v = s₀ .state
 
-          by : Which i j → PollKept (slotAt (w .endpoint) j) (slotAt (withSlot (w .endpoint) i (afterPacket (slotAt (w .endpoint) i) r)) j) (storeAt w j) (log j)
-              (transmitted (phaseAt w j) (slotAt (withSlot (w .endpoint) i (afterPacket (slotAt (w .endpoint) i) r)) j .phase) (handed-out (commandPacket w i r)) (log j))
+          by : Which i j → PollKept (slotAt (w .endpoint) j) (slotAt (withSlot (w .endpoint) i (afterPacket (slotAt (w .endpoint) i) r)) j) (storeAt w j) (trace j)
+              (transmitted (phaseAt w j) (slotAt (withSlot (w .endpoint) i (afterPacket (slotAt (w .endpoint) i) r)) j .phase) (handed-out (commandPacket w i r)) (trace j))
           by (this q) = rw (q, slot-this i (c .slot-is) v (afterPacket (slotAt (w .endpoint) i) r)) (sent-kept i r (c .slot-is) (c .sends))
           by (that q) =
               rw (q, slot-that i (c .slot-is) v (afterPacket (slotAt (w .endpoint) i) r))
-              (same-kept (otherSlot i) (other-most i) _ (unmoved (phaseAt w (otherSlot i)) (phaseAt w (otherSlot i)) (commandPacket w i r) (log (otherSlot i)) refl))
+              (same-kept (otherSlot i) (other-most i) _ (unmoved (phaseAt w (otherSlot i)) (phaseAt w (otherSlot i)) (commandPacket w i r) (trace (otherSlot i)) refl))
 
   pub poll-kept : (j : ℕ) → j ≤ 1 → KeptAt (step (poll buffer) w) j
   poll-kept j js = kept-in (poll-case w buffer s₀) j js

@@ -9,11 +9,10 @@ use lib.Dec.{eqb}
 use lib.ListN.{length, length-drop}
 use borrow.Author.Tests.{eq-eqb, eqb-true, not-true}
 use Rattle.lent.specs.Bytes.{byteAt, isSet}
-use Rattle.lent.proofs.Choice.{if-second}
+use Rattle.lent.proofs.Choice.{if-second, differ}
 use Rattle.mctp.specs.Header.{payloadOf}
 use Rattle.nvme_mi.specs.Message.{messageHeader, controlFault}
 use Rattle.nvme_mi.specs.declared.MessageHeader.{MessageHeader}
-use Rattle.nvme_mi.specs.declared.Fault.{Fault}
 use Rattle.nvme_mi.specs.declared.Fault.the-variants.{NoFault}
 use Rattle.machine.specs.State.{World}
 use Rattle.machine.specs.Wire.{opcodeOf}
@@ -29,14 +28,11 @@ is-control w p c =
     let n : length p ≡ 16 = omega (arith, rw (length-drop 4 p) at (c .twelve)) in
     rw (eq-eqb (length p) 16 n, r .version, r .ours, c .som, c .eom, r .direction, c .typed, c .request, c .kind, c .right) refl
 
-no-fault : {A : Type 0} {f : Fault} → f ≡ NoFault → (f ≡ NoFault → _≡_ {A = ℕ} 0 1) → A
-no-fault e k = absurd (omega (arith, k e))
-
 unfaulted : (h : MessageHeader) (opcode : ℕ) → controlFault h opcode ≡ NoFault → (h .meb ≡ false) × (h .ciap ≡ false)
 unfolding controlFault
 unfaulted h opcode e =
-    let a = if-second (h .meb) (λ k. no-fault k (λ q. cc)) e in
-    let b = if-second (h .ciap) (λ k. no-fault k (λ q. cc)) (a .1) in
+    let a = if-second (h .meb) (λ k. differ (cc k)) e in
+    let b = if-second (h .ciap) (λ k. differ (cc k)) (a .1) in
     (a .0, b .0)
 
 pub is-primitive : (w : World) (p : List ℕ) → Controls w p → controlFault (messageHeader (payloadOf p)) (opcodeOf (payloadOf p)) ≡ NoFault

@@ -1,9 +1,9 @@
--- What receiving a packet does to each slot, its store and its log.
+-- What receiving a packet does to each slot, its store and its trace.
 -- Assumes nothing.
-use Prim.Native.Nat.{ℕ, _+_, _-_, _*_, _/_, _%_, _^_, _≤_, _<_}
+use Prim.Native.Nat.{ℕ, _+_, _%_, _^_, _≤_}
 use mathlib.Core.Path.{_≡_, refl, sym, ap, _∙_}
-use mathlib.Core.Bool.{Bool, true, false, _&&_, _||_}
-use mathlib.Core.List.{List, [], _∷_, _++_}
+use mathlib.Core.Bool.{Bool, true, false, _&&_}
+use mathlib.Core.List.{List, []}
 use native.Mathlib.Omega.{arith}
 use lib.Dec.{eqb}
 use lib.ListN.{length, take}
@@ -15,43 +15,37 @@ use Rattle.lent.proofs.Choice.{if-ind, false-true, both-and}
 use Rattle.lent.proofs.Stores.{length-put, take-put}
 use Rattle.mctp.specs.Header.{fields, payloadOf}
 use Rattle.nvme_mi.specs.Check.{checkRight}
-use Rattle.nvme_mi.specs.Message.{messageHeader, commandFault, controlFault}
+use Rattle.nvme_mi.specs.Message.{messageHeader, commandFault, controlFault, smallest}
 use Rattle.nvme_mi.specs.Response.{response, faultBody}
 use Rattle.nvme_mi.proofs.Laws.{length-response}
 use Rattle.nvme_mi.specs.declared.MessageHeader.{MessageHeader}
 use Rattle.nvme_mi.specs.declared.Fault.{Fault}
 use Rattle.nvme_mi.specs.declared.Fault.the-variants.{NoFault, Parameter, Failure}
 use Rattle.machine.specs.State.{World, Outcome, outcome, slotAt, storeAt, withSlot, withStore, withEndpoint, onSlot, withPhase, withBusy, idled, isIdle, settled, nextTicket}
-use Rattle.machine.specs.Wire.{unit, store-size, response-place, smallest, opcodeOf, clearsFlags}
+use Rattle.machine.specs.Wire.{unit, store-size, response-place, opcodeOf, clearsFlags}
 use Rattle.machine.specs.Control.{pausedSlot, pause, resumedSlot, released as releasedPhase, resume, abort, clearFlags, primitive, controlledBy, controlled}
 use Rattle.machine.specs.Process.{request, processing, responseTo, responded, respondedAtOnce, pausedIf, entered as enteredWorld}
 use Rattle.machine.specs.Receive.{refused, refusedBusy, dropped, gathers, endedSlot, endAssembly, received}
 use Rattle.machine.specs.Poll.{otherSlot}
-use Rattle.machine.specs.Valid.{Valid, Sound, PhaseFacts}
+use Rattle.machine.specs.Valid.{Valid, Sound}
 use Rattle.machine.specs.Calls.{Call, receive, number, Stepped, byOutcome}
-use Rattle.machine.specs.History.{Log, phaseAt, hasSom, sourceOf, messageTagOf, isTransmit, isFor, requestWith, responseFor, fixedAtEntry, gaining, entering, commanded, transmitted, logAfter, isPrimitive, isAbort, cuts}
-use Rattle.machine.specs.declared.Request.{Request}
-use Rattle.machine.specs.declared.Phase.{Phase}
-use Rattle.machine.specs.declared.Phase.the-variants.{Idle, Receive, Process, Answered, Transmit}
-use Rattle.machine.specs.declared.Slot.{Slot}
-use Rattle.machine.specs.declared.Endpoint.{Endpoint}
-use Rattle.machine.specs.declared.Acted.{Acted}
-use Rattle.machine.proofs.Slots.{isEarly, facts-at, other-most}
+use Rattle.machine.specs.History.{Trace, phaseAt, hasSom, sourceOf, messageTagOf, isTransmit, isFor, requestWith, responseFor, fixedAtEntry, gaining, entering, commanded, transmitted, traceAfter, isPrimitive, isAbort, cuts}
+use Rattle.machine.specs.Types.{Request, Phase, Idle, Receive, Process, Answered, Transmit, Slot, Endpoint, Acted}
+use Rattle.machine.proofs.Slots.{isEarly, other-most}
 use Rattle.machine.proofs.Receiving.{Origin, opens, goes-on, Joining, filled, grown, whole, Controls, Ground, in-table, of-no-slot, Busy, Gathering, Break, in-sequence, in-size, in-total, Walk, csi-most, receives-gathers, walked}
 use Rattle.machine.proofs.Primitives.{is-primitive}
 use Rattle.machine.proofs.Keeps.{sound-endpoint, store-at, kept-quiet, pause-valid, end-valid}
-use Rattle.machine.proofs.Places.{Which, this, that, which, other-differs, slot-this, slot-that, slot-both, store-this, store-that, take-joined}
-use Rattle.machine.proofs.Fits.{Fit, entered, stayed, newly, Carried, quiet-other, refusal-log, carried-same, carried-ended, carried-cut, carried-released, carried-settled, settled-begun, settled-late, next-ticket, response-is, atEntry, fixed-is}
+use Rattle.machine.proofs.Places.{Frame, Which, this, that, which, other-differs, slot-this, slot-that, slot-both, store-this, store-that, take-joined}
+use Rattle.machine.proofs.Fits.{Fit, entered, stayed, newly, Carried, quiet-other, refusal-trace, carried-same, carried-ended, carried-cut, carried-released, carried-settled, settled-begun, settled-late, next-ticket, response-is, atEntry, fixed-is}
 
--- what a call does to both slots, with the logs before it, and to what polling goes by
-pub record Carries (c : Call) (w : World) (log : ℕ → Log) (s : Stepped) : Type 0 where
-  pub turn-is : s .world .endpoint .turn ≡ w .endpoint .turn
-  pub last-is : s .world .endpoint .«last_control» ≡ w .endpoint .«last_control»
+-- what a call does to both slots, with the traces before it, and to what polling goes by
+pub record Carries (c : Call) (w : World) (trace : ℕ → Trace) (s : Stepped) : Type 0 where
+  pub frame : Frame (w .endpoint) (s .world .endpoint)
   pub carried : (j : ℕ) → j ≤ 1
-      → Carried (cuts j c w ≡ true) (slotAt (w .endpoint) j) (slotAt (s .world .endpoint) j) (storeAt (s .world) j) (log j) (logAfter j c w s (log j))
+      → Carried (cuts j c w ≡ true) (slotAt (w .endpoint) j) (slotAt (s .world .endpoint) j) (storeAt (s .world) j) (trace j) (traceAfter j c w s (trace j))
 
-module _ (w₀ : World) (packet : List ℕ) (log : ℕ → Log) (s₀ : Sound w₀)
-    (fits : (j : ℕ) → j ≤ 1 → Fit (slotAt (w₀ .endpoint) j) (storeAt w₀ j) (log j)) where
+module _ (w₀ : World) (packet : List ℕ) (trace : ℕ → Trace) (s₀ : Sound w₀)
+    (fits : (j : ℕ) → j ≤ 1 → Fit (slotAt (w₀ .endpoint) j) (storeAt w₀ j) (trace j)) where
   abbrev eid₀ : ℕ
   eid₀ = w₀ .endpoint .eid
 
@@ -62,28 +56,27 @@ module _ (w₀ : World) (packet : List ℕ) (log : ℕ → Log) (s₀ : Sound w�
 
   pub record Mid (w : World) : Type 0 where
     pub sound : Sound w
-    pub turn-is : w .endpoint .turn ≡ w₀ .endpoint .turn
-    pub last-is : w .endpoint .«last_control» ≡ w₀ .endpoint .«last_control»
+    pub frame : Frame (w₀ .endpoint) (w .endpoint)
     pub stores : (j : ℕ) → storeAt w j ≡ storeAt w₀ j
     pub tickets : (j : ℕ) → j ≤ 1 → slotAt (w .endpoint) j .ticket ≡ slotAt (w₀ .endpoint) j .ticket
     pub phases : (j : ℕ) → j ≤ 1 → MidPhase (phaseAt w₀ j) (phaseAt w j)
 
   abbrev Ends : Outcome → Type 0
-  Ends o = Carries (receive packet) w₀ log (byOutcome o)
+  Ends o = Carries (receive packet) w₀ trace (byOutcome o)
 
   abbrev Cut : ℕ → Type 0
   Cut j = isAbort j eid₀ packet ≡ true
 
-  -- the log with answer n, where the packet adds nothing to slot j's command
-  abbrev quietly : ℕ → ℕ → Slot → Log
-  quietly j n t = transmitted (phaseAt w₀ j) (t .phase) (number n) (log j)
+  -- the trace with answer n, where the packet adds nothing to slot j's command
+  abbrev quietly : ℕ → ℕ → Slot → Trace
+  quietly j n t = transmitted (phaseAt w₀ j) (t .phase) (number n) (trace j)
 
   -- a slot that only went through the way's beginning
   mid-carried : (w : World) → Mid w → (n j : ℕ) → j ≤ 1 → (t : Slot) → t .phase ≡ phaseAt w j → t .ticket ≡ slotAt (w .endpoint) j .ticket
-      → Carried (Cut j) (slotAt (w₀ .endpoint) j) t (storeAt w₀ j) (log j) (quietly j n t)
+      → Carried (Cut j) (slotAt (w₀ .endpoint) j) t (storeAt w₀ j) (trace j) (quietly j n t)
   mid-carried w m n j js t e k = go (m .phases j js)
     where
-      go : MidPhase (phaseAt w₀ j) (phaseAt w j) → Carried (Cut j) (slotAt (w₀ .endpoint) j) t (storeAt w₀ j) (log j) (quietly j n t)
+      go : MidPhase (phaseAt w₀ j) (phaseAt w j) → Carried (Cut j) (slotAt (w₀ .endpoint) j) t (storeAt w₀ j) (trace j) (quietly j n t)
       go (kept q) = carried-same n (e ∙ q) (k ∙ m .tickets j js) (fits j js)
       go (ended _ early q) = carried-ended (storeAt w₀ j) n early (e ∙ q) (k ∙ m .tickets j js) (fits j js .ticket-is)
 
@@ -109,40 +102,37 @@ module _ (w₀ : World) (packet : List ℕ) (log : ℕ → Log) (s₀ : Sound w�
   unfolding refused
   refuse w n h m =
       record {
-        turn-is = m .turn-is;
-        last-is = m .last-is;
-        carried = λ j js. rw (refusal-log j packet w₀ n (log j) (omega arith), m .stores j) (mid-carried w m n j js (slotAt (w .endpoint) j) refl refl);
+        frame = m .frame;
+        carried = λ j js. rw (refusal-trace j packet w₀ n (trace j) (omega arith), m .stores j) (mid-carried w m n j js (slotAt (w .endpoint) j) refl refl);
       }
 
   -- only slot i and its store change
-  abbrev LogOf : ℕ → ℕ → Slot → Log
-  LogOf j n t = transmitted (phaseAt w₀ j) (t .phase) (number n) (commanded j (receive packet) w₀ (number n) (log j))
+  abbrev TraceOf : ℕ → ℕ → Slot → Trace
+  TraceOf j n t = transmitted (phaseAt w₀ j) (t .phase) (number n) (commanded j (receive packet) w₀ (number n) (trace j))
 
   pub record OneSlot (w : World) (i : ℕ) (o : Outcome) : Type 0 where
-    pub turn-same : o .world .endpoint .turn ≡ w .endpoint .turn
-    pub last-same : o .world .endpoint .«last_control» ≡ w .endpoint .«last_control»
+    pub frame : Frame (w .endpoint) (o .world .endpoint)
     pub that-phase : slotAt (o .world .endpoint) (otherSlot i) .phase ≡ phaseAt w (otherSlot i)
     pub that-ticket : slotAt (o .world .endpoint) (otherSlot i) .ticket ≡ slotAt (w .endpoint) (otherSlot i) .ticket
     pub that-store : storeAt (o .world) (otherSlot i) ≡ storeAt w (otherSlot i)
-    pub that-log : commanded (otherSlot i) (receive packet) w₀ (number (o .answer)) (log (otherSlot i)) ≡ log (otherSlot i)
-    pub this-slot : Carried (Cut i) (slotAt (w₀ .endpoint) i) (slotAt (o .world .endpoint) i) (storeAt (o .world) i) (log i)
-        (LogOf i (o .answer) (slotAt (o .world .endpoint) i))
+    pub that-trace : commanded (otherSlot i) (receive packet) w₀ (number (o .answer)) (trace (otherSlot i)) ≡ trace (otherSlot i)
+    pub this-slot : Carried (Cut i) (slotAt (w₀ .endpoint) i) (slotAt (o .world .endpoint) i) (storeAt (o .world) i) (trace i)
+        (TraceOf i (o .answer) (slotAt (o .world .endpoint) i))
 
   one-slot : (w : World) (i : ℕ) (o : Outcome) → i ≤ 1 → Mid w → OneSlot w i o → Ends o
   one-slot w i o is m k =
       record {
-        turn-is = k .turn-same ∙ m .turn-is;
-        last-is = k .last-same ∙ m .last-is;
+        frame = k .frame ∙ m .frame;
         carried = λ j js. at j js (which i j is js);
       }
     where
       that-one : otherSlot i ≤ 1 → Carried (Cut (otherSlot i)) (slotAt (w₀ .endpoint) (otherSlot i)) (slotAt (o .world .endpoint) (otherSlot i))
-          (storeAt (o .world) (otherSlot i)) (log (otherSlot i)) (LogOf (otherSlot i) (o .answer) (slotAt (o .world .endpoint) (otherSlot i)))
+          (storeAt (o .world) (otherSlot i)) (trace (otherSlot i)) (TraceOf (otherSlot i) (o .answer) (slotAt (o .world .endpoint) (otherSlot i)))
       that-one js =
-          rw (k .that-log, k .that-store, m .stores (otherSlot i))
+          rw (k .that-trace, k .that-store, m .stores (otherSlot i))
           (mid-carried w m (o .answer) (otherSlot i) js (slotAt (o .world .endpoint) (otherSlot i)) (k .that-phase) (k .that-ticket))
 
-      at : (j : ℕ) → j ≤ 1 → Which i j → Carried (Cut j) (slotAt (w₀ .endpoint) j) (slotAt (o .world .endpoint) j) (storeAt (o .world) j) (log j) (LogOf j (o .answer) (slotAt (o .world .endpoint) j))
+      at : (j : ℕ) → j ≤ 1 → Which i j → Carried (Cut j) (slotAt (w₀ .endpoint) j) (slotAt (o .world .endpoint) j) (storeAt (o .world) j) (trace j) (TraceOf j (o .answer) (slotAt (o .world .endpoint) j))
       at j js (this e) = rw e (k .this-slot)
       at j js (that e) = rw e (that-one (rw e at js))
 
@@ -156,12 +146,11 @@ module _ (w₀ : World) (packet : List ℕ) (log : ℕ → Log) (s₀ : Sound w�
       let b : slotAt (withSlot (w .endpoint) i s) (otherSlot i) ≡ slotAt (w .endpoint) (otherSlot i) = slot-that i is v s in
       one-slot w i (refusedBusy w i) is m
       (record {
-        turn-same = refl;
-        last-same = refl;
+        frame = refl;
         that-phase = rw b refl;
         that-ticket = rw b refl;
         that-store = refl;
-        that-log = refl;
+        that-trace = refl;
         this-slot = rw (a, m .stores i) (mid-carried w m 20 i is s refl refl);
       })
 
@@ -177,14 +166,13 @@ module _ (w₀ : World) (packet : List ℕ) (log : ℕ → Log) (s₀ : Sound w�
       let b : slotAt (withSlot (w .endpoint) i s) (otherSlot i) ≡ slotAt (w .endpoint) (otherSlot i) = slot-that i is v s in
       one-slot w i (refused (dropped w i) n) is m
       (record {
-        turn-same = refl;
-        last-same = refl;
+        frame = refl;
         that-phase = rw b refl;
         that-ticket = rw b refl;
         that-store = refl;
-        that-log = refusal-log (otherSlot i) packet w₀ n (log (otherSlot i)) (omega arith);
+        that-trace = refusal-trace (otherSlot i) packet w₀ n (trace (otherSlot i)) (omega arith);
         this-slot =
-            rw (a, refusal-log i packet w₀ n (log i) (omega arith))
+            rw (a, refusal-trace i packet w₀ n (trace i) (omega arith))
             (carried-ended (storeAt w i) n (was-early w m i is early) refl (m .tickets i is) (fits i is .ticket-is));
       })
 
@@ -198,19 +186,18 @@ module _ (w₀ : World) (packet : List ℕ) (log : ℕ → Log) (s₀ : Sound w�
       let b : slotAt (withSlot (w .endpoint) i s) (otherSlot i) ≡ slotAt (w .endpoint) (otherSlot i) = slot-that i is v s in
       one-slot w i (refused (dropped (filled w₀ packet w i at) i) 19) is m
       (record {
-        turn-same = refl;
-        last-same = refl;
+        frame = refl;
         that-phase = rw b refl;
         that-ticket = rw b refl;
         that-store = store-that w i is _;
-        that-log = refl;
+        that-trace = refl;
         this-slot = rw a (carried-ended _ 19 (was-early w m i is (j .early)) refl (m .tickets i is) (fits i is .ticket-is));
       })
 
   -- ---- a command's packet
 
   -- without SOM no assembly has ended
-  phase-before : (w : World) → Mid w → (j : ℕ) → j ≤ 1 → hasSom packet ≡ false → phaseAt w j ≡ phaseAt w₀ j
+  pub phase-before : (w : World) → Mid w → (j : ℕ) → j ≤ 1 → hasSom packet ≡ false → phaseAt w j ≡ phaseAt w₀ j
   phase-before w m j js som = go (m .phases j js)
     where
       go : MidPhase (phaseAt w₀ j) (phaseAt w j) → phaseAt w j ≡ phaseAt w₀ j
@@ -224,39 +211,39 @@ module _ (w₀ : World) (packet : List ℕ) (log : ℕ → Log) (s₀ : Sound w�
   for-this w i at m j = go (j .origin)
     where
       go : {n : ℕ} → Origin w₀ packet w i n → isFor i packet w₀ ≡ true
-      go (opens som e) = rw som (eq-eqb (byteAt packet 5 % 2) i (csi-is ∙ sym e))
-      go (goes-on som a ph fr) =
+      go (opens som e _) = rw som (eq-eqb (byteAt packet 5 % 2) i (csi-is ∙ sym e))
+      go (goes-on som a ph fr _) =
           rw (som, receives-gathers (sourceOf packet) (messageTagOf packet) (phaseAt w₀ i), sym (phase-before w m i (j .slot-is) som), ph) fr
 
   pub for-that : (w : World) (i at : ℕ) → Mid w → Joining w₀ packet w i at → isFor (otherSlot i) packet w₀ ≡ false
   for-that w i at m j = go (j .origin)
     where
       go : {n : ℕ} → Origin w₀ packet w i n → isFor (otherSlot i) packet w₀ ≡ false
-      go (opens som e) = rw som (ne-eqb (byteAt packet 5 % 2) (otherSlot i) (λ k. other-differs i (j .slot-is) (sym k ∙ csi-is ∙ sym e)))
-      go (goes-on som a ph fr) =
+      go (opens som e _) = rw som (ne-eqb (byteAt packet 5 % 2) (otherSlot i) (λ k. other-differs i (j .slot-is) (sym k ∙ csi-is ∙ sym e)))
+      go (goes-on som a ph fr _) =
           rw (som, receives-gathers (sourceOf packet) (messageTagOf packet) (phaseAt w₀ (otherSlot i)), sym (phase-before w m (otherSlot i) (other-most i) som)) (j .alone)
 
   that-gains : (w : World) (i at : ℕ) → Mid w → Joining w₀ packet w i at → (n : ℕ)
-      → commanded (otherSlot i) (receive packet) w₀ (number n) (log (otherSlot i)) ≡ log (otherSlot i)
+      → commanded (otherSlot i) (receive packet) w₀ (number n) (trace (otherSlot i)) ≡ trace (otherSlot i)
   that-gains w i at m j n = rw (for-that w i at m j) (none (eqb n 0) (eqb n 1))
     where
-      none : (a b : Bool) → (if a && false then gaining packet (log (otherSlot i)) else if b && false then entering (otherSlot i) packet (log (otherSlot i)) else log (otherSlot i)) ≡ log (otherSlot i)
+      none : (a b : Bool) → (if a && false then gaining packet (trace (otherSlot i)) else if b && false then entering (otherSlot i) packet (trace (otherSlot i)) else trace (otherSlot i)) ≡ trace (otherSlot i)
       none true true = refl
       none true false = refl
       none false true = refl
       none false false = refl
 
   -- the store's front is then the request so far
-  pub front : (w : World) (i at : ℕ) → Mid w → Joining w₀ packet w i at → whole w₀ packet w i at ≡ requestWith packet (log i)
+  pub front : (w : World) (i at : ℕ) → Mid w → Joining w₀ packet w i at → whole w₀ packet w i at ≡ requestWith packet (trace i)
   front w i at m j = rw (store-this w i (j .slot-is) (put (storeAt w i) at (payloadOf packet))) (go (j .fits) (j .origin))
     where
       room : {n : ℕ} → n + length (payloadOf packet) ≤ store-size → n ≤ length (storeAt w i)
       room h = rw (store-at i (m .sound)) (omega arith)
 
-      go : {n : ℕ} → n + length (payloadOf packet) ≤ store-size → Origin w₀ packet w i n → take (n + length (payloadOf packet)) (put (storeAt w i) n (payloadOf packet)) ≡ requestWith packet (log i)
-      go h (opens som e) = rw som (take-joined (storeAt w i) 0 (payloadOf packet) (room h))
-      go h (goes-on som a ph fr) =
-          let before : take (a .length) (storeAt w₀ i) ≡ log i .request =
+      go : {n : ℕ} → n + length (payloadOf packet) ≤ store-size → Origin w₀ packet w i n → take (n + length (payloadOf packet)) (put (storeAt w i) n (payloadOf packet)) ≡ requestWith packet (trace i)
+      go h (opens som e _) = rw som (take-joined (storeAt w i) 0 (payloadOf packet) (room h))
+      go h (goes-on som a ph fr _) =
+          let before : take (a .length) (storeAt w₀ i) ≡ trace i .request =
           rw (sym (phase-before w m i (j .slot-is) som) ∙ ph) at (fits i (j .slot-is) .phase-fits) in
           rw som (take-joined (storeAt w i) (a .length) (payloadOf packet) (room h) ∙ rw (m .stores i, before) refl)
 
@@ -270,14 +257,13 @@ module _ (w₀ : World) (packet : List ℕ) (log : ℕ → Log) (s₀ : Sound w�
       let b : slotAt (withSlot (w .endpoint) i s) (otherSlot i) ≡ slotAt (w .endpoint) (otherSlot i) = slot-that i is v s in
       one-slot w i (outcome 0 (onSlot (filled w₀ packet w i at) i s)) is m
       (record {
-        turn-same = refl;
-        last-same = refl;
+        frame = refl;
         that-phase = rw b refl;
         that-ticket = rw b refl;
         that-store = store-that w i is _;
-        that-log = that-gains w i at m j 0;
+        that-trace = that-gains w i at m j 0;
         this-slot =
-            rw (a, for-this w i at m j, quiet-other (phaseAt w₀ i) (Receive (grown w₀ packet at)) 0 (gaining packet (log i)) refl)
+            rw (a, for-this w i at m j, quiet-other (phaseAt w₀ i) (Receive (grown w₀ packet at)) 0 (gaining packet (trace i)) refl)
             (record {
               fit = record { phase-fits = front w i at m j; ticket-is = rw (m .tickets i is) (fits i is .ticket-is) };
               entry = stayed refl (λ h. false-true h);
@@ -301,8 +287,7 @@ module _ (w₀ : World) (packet : List ℕ) (log : ℕ → Log) (s₀ : Sound w�
   pub record Alike (e f : Endpoint) : Type 0 where
     pub same-phase : (j : ℕ) → j ≤ 1 → slotAt f j .phase ≡ slotAt e j .phase
     pub same-ticket : (j : ℕ) → j ≤ 1 → slotAt f j .ticket ≡ slotAt e j .ticket
-    pub same-turn : f .turn ≡ e .turn
-    pub same-last : f .«last_control» ≡ e .«last_control»
+    pub frame : Frame e f
 
   pause-alike : (e : Endpoint) → Alike e (pause e)
   unfolding pause
@@ -310,19 +295,18 @@ module _ (w₀ : World) (packet : List ℕ) (log : ℕ → Log) (s₀ : Sound w�
       record {
         same-phase = λ j js. rw (slot-both pausedSlot e j js) (pause-slot (slotAt e j) .0);
         same-ticket = λ j js. rw (slot-both pausedSlot e j js) (pause-slot (slotAt e j) .1);
-        same-turn = refl;
-        same-last = refl;
+        frame = refl;
       }
 
   itself : (e : Endpoint) → Alike e e
-  itself e = record { same-phase = λ j js. refl; same-ticket = λ j js. refl; same-turn = refl; same-last = refl }
+  itself e = record { same-phase = λ j js. refl; same-ticket = λ j js. refl; frame = refl }
 
   paused-alike : (b : Bool) (e : Endpoint) → Alike e (pausedIf b e)
   paused-alike b e = if-ind (Alike e) b (λ _. pause-alike e) (λ _. itself e)
 
   module _ (w : World) (i at : ℕ) (j : Joining w₀ packet w i at) (lo : smallest ≤ at + length (payloadOf packet)) (m : Mid w) where
     abbrev pub asked : List ℕ
-    asked = requestWith packet (log i)
+    asked = requestWith packet (trace i)
 
     abbrev pub mh : MessageHeader
     mh = messageHeader (whole w₀ packet w i at)
@@ -363,11 +347,11 @@ module _ (w₀ : World) (packet : List ℕ) (log : ℕ → Log) (s₀ : Sound w�
     that-ticket : slotAt e₂ (otherSlot i) .ticket ≡ slotAt (w .endpoint) (otherSlot i) .ticket
     that-ticket = alike .same-ticket (otherSlot i) (other-most i) ∙ rw that-at refl
 
-    ticket-next : slotAt e₂ i .ticket .0 ≡ (log i .entries + 1) % 2 ^ 32
+    ticket-next : slotAt e₂ i .ticket .0 ≡ (trace i .entries + 1) % 2 ^ 32
     ticket-next =
         let t : slotAt e₂ i .ticket ≡ nextTicket (slotAt (w₀ .endpoint) i .ticket) =
         alike .same-ticket i (j .slot-is) ∙ rw (this-at, m .tickets i (j .slot-is)) refl in
-        rw t (next-ticket (slotAt (w₀ .endpoint) i .ticket .0) (log i .entries) (fits i (j .slot-is) .ticket-is))
+        rw t (next-ticket (slotAt (w₀ .endpoint) i .ticket .0) (trace i .entries) (fits i (j .slot-is) .ticket-is))
 
     pub whole-is : whole w₀ packet w i at ≡ asked
     whole-is = front w i at m j
@@ -389,14 +373,13 @@ module _ (w₀ : World) (packet : List ℕ) (log : ℕ → Log) (s₀ : Sound w�
     waits none =
         one-slot w i (outcome 1 w₂) (j .slot-is) m
         (record {
-          turn-same = alike .same-turn;
-          last-same = alike .same-last;
+          frame = alike .frame;
           that-phase = that-phase;
           that-ticket = that-ticket;
           that-store = store-that w i (j .slot-is) _;
-          that-log = that-gains w i at m j 1;
+          that-trace = that-gains w i at m j 1;
           this-slot =
-              rw (for-this w i at m j, quiet-other (phaseAt w₀ i) (slotAt e₂ i .phase) 1 (entering i packet (log i)) (rw in-process refl))
+              rw (for-this w i at m j, quiet-other (phaseAt w₀ i) (slotAt e₂ i .phase) 1 (entering i packet (trace i)) (rw in-process refl))
               (record {
                 fit =
                     record {
@@ -425,17 +408,16 @@ module _ (w₀ : World) (packet : List ℕ) (log : ℕ → Log) (s₀ : Sound w�
         let lies : take (length body + 8) (put (storeAt w₂ i) response-place text) ≡ text = rw (sym n) (take-put (storeAt w₂ i) text) in
         one-slot w i (outcome 1 (responded w₂ i command body)) is m
         (record {
-          turn-same = alike .same-turn;
-          last-same = alike .same-last;
+          frame = alike .frame;
           that-phase = rw c that-phase;
           that-ticket = rw c that-ticket;
           that-store = store-that w₂ i is (put (storeAt w₂ i) response-place text) ∙ store-that w i is _;
-          that-log = that-gains w i at m j 1;
+          that-trace = that-gains w i at m j 1;
           this-slot =
               rw (a, for-this w i at m j)
-              (carried-settled (entering i packet (log i)) 1 b r (early-silent (phaseAt w₀ i) was) refl refl
+              (carried-settled (entering i packet (trace i)) 1 b r (early-silent (phaseAt w₀ i) was) refl
               (record { held = rw stored (lies ∙ text-is); size = rw (sym text-is) n; to = refl; under = refl }) ticket-next (entered was (settled-late b r) refl)
-              (newly was (settled-begun b r refl)));
+              (newly was (settled-begun b r)));
         })
 
     at-once : (f : Fault) → commandFault mh (at + length (payloadOf packet)) ≡ f → Ends (outcome 1 (respondedAtOnce w₂ i command f))
@@ -454,49 +436,45 @@ module _ (w₀ : World) (packet : List ℕ) (log : ℕ → Log) (s₀ : Sound w�
   -- ---- a control primitive
 
   pub record Acts (w : World) (a : Acted) : Type 0 where
-    pub turn-same : a .endpoint .turn ≡ w .endpoint .turn
-    pub last-same : a .endpoint .«last_control» ≡ w .endpoint .«last_control»
+    pub frame : Frame (w .endpoint) (a .endpoint)
     pub each : (j : ℕ) → j ≤ 1
-        → Carried (Cut j) (slotAt (w₀ .endpoint) j) (slotAt (a .endpoint) j) (storeAt w₀ j) (log j) (quietly j 2 (slotAt (a .endpoint) j))
+        → Carried (Cut j) (slotAt (w₀ .endpoint) j) (slotAt (a .endpoint) j) (storeAt w₀ j) (trace j) (quietly j 2 (slotAt (a .endpoint) j))
 
   alike-acts : (w : World) → Mid w → (a : Acted) → Alike (w .endpoint) (a .endpoint) → Acts w a
   alike-acts w m a k =
       record {
-        turn-same = k .same-turn;
-        last-same = k .same-last;
+        frame = k .frame;
         each = λ j js. mid-carried w m 2 j js (slotAt (a .endpoint) j) (k .same-phase j js) (k .same-ticket j js);
       }
 
   -- Resume
   resumed-one : (j : ℕ) → j ≤ 1 → (s t : Slot) → t .phase ≡ releasedPhase (s .phase) → t .ticket ≡ s .ticket → s .phase ≡ phaseAt w₀ j → s .ticket ≡ slotAt (w₀ .endpoint) j .ticket
-      → Carried (Cut j) (slotAt (w₀ .endpoint) j) t (storeAt w₀ j) (log j) (quietly j 2 t)
+      → Carried (Cut j) (slotAt (w₀ .endpoint) j) t (storeAt w₀ j) (trace j) (quietly j 2 t)
   resumed-one j js s t e k p q = go (s .phase) e p
     where
-      plain : {x : Phase} → t .phase ≡ x → x ≡ phaseAt w₀ j → Carried (Cut j) (slotAt (w₀ .endpoint) j) t (storeAt w₀ j) (log j) (quietly j 2 t)
+      plain : {x : Phase} → t .phase ≡ x → x ≡ phaseAt w₀ j → Carried (Cut j) (slotAt (w₀ .endpoint) j) t (storeAt w₀ j) (trace j) (quietly j 2 t)
       plain a b = carried-same 2 (a ∙ b) (k ∙ q) (fits j js)
 
-      go : (x : Phase) → t .phase ≡ releasedPhase x → x ≡ phaseAt w₀ j → Carried (Cut j) (slotAt (w₀ .endpoint) j) t (storeAt w₀ j) (log j) (quietly j 2 t)
+      go : (x : Phase) → t .phase ≡ releasedPhase x → x ≡ phaseAt w₀ j → Carried (Cut j) (slotAt (w₀ .endpoint) j) t (storeAt w₀ j) (trace j) (quietly j 2 t)
       go Idle a b = plain a b
       go (Receive x) a b = plain a b
       go (Process x) a b = plain a b
-      go (Answered r) a b =
-          let f : PhaseFacts (slotAt (w₀ .endpoint) j .paused) (Answered r) = rw (sym b) at (facts-at j js (s₀ .state)) in
-          carried-released 2 r (sym b) (f .1) a (k ∙ q) (fits j js)
+      go (Answered r) a b = carried-released 2 r (sym b) a (k ∙ q) (fits j js)
       go (Transmit r) a b = plain a b
 
   resume-acts : (w : World) → Mid w → (cpsr : ℕ) → Acts w (record { endpoint = resume (w .endpoint); cpsr = cpsr })
   unfolding resume
-  resume-acts w m cpsr = record { turn-same = refl; last-same = refl; each = λ j js. rw (slot-both resumedSlot (w .endpoint) j js) (at j js (m .phases j js)) }
+  resume-acts w m cpsr = record { frame = refl; each = λ j js. rw (slot-both resumedSlot (w .endpoint) j js) (at j js (m .phases j js)) }
     where
       at : (j : ℕ) → j ≤ 1 → MidPhase (phaseAt w₀ j) (phaseAt w j)
-          → Carried (Cut j) (slotAt (w₀ .endpoint) j) (resumedSlot (slotAt (w .endpoint) j)) (storeAt w₀ j) (log j) (quietly j 2 (resumedSlot (slotAt (w .endpoint) j)))
+          → Carried (Cut j) (slotAt (w₀ .endpoint) j) (resumedSlot (slotAt (w .endpoint) j)) (storeAt w₀ j) (trace j) (quietly j 2 (resumedSlot (slotAt (w .endpoint) j)))
       at j js (kept q) = resumed-one j js (slotAt (w .endpoint) j) (resumedSlot (slotAt (w .endpoint) j)) refl refl q (m .tickets j js)
       at j js (ended _ early q) = carried-ended (storeAt w₀ j) 2 early (ap releasedPhase q) (m .tickets j js) (fits j js .ticket-is)
 
   -- Abort
   abort-acts : (w : World) → Mid w → (i cpsr : ℕ) → i ≤ 1 → Cut i → Acts w (record { endpoint = abort (w .endpoint) i; cpsr = cpsr })
   unfolding abort
-  abort-acts w m i cpsr is c = record { turn-same = refl; last-same = refl; each = λ j js. at j js (which i j is js) }
+  abort-acts w m i cpsr is c = record { frame = refl; each = λ j js. at j js (which i j is js) }
     where
       v : Valid (w .endpoint)
       v = m .sound .state
@@ -504,17 +482,17 @@ module _ (w₀ : World) (packet : List ℕ) (log : ℕ → Log) (s₀ : Sound w�
       e : Endpoint
       e = withSlot (w .endpoint) i (idled (slotAt (w .endpoint) i))
 
-      this-one : Carried (Cut i) (slotAt (w₀ .endpoint) i) (idled (slotAt (w .endpoint) i)) (storeAt w₀ i) (log i) (quietly i 2 (idled (slotAt (w .endpoint) i)))
+      this-one : Carried (Cut i) (slotAt (w₀ .endpoint) i) (idled (slotAt (w .endpoint) i)) (storeAt w₀ i) (trace i) (quietly i 2 (idled (slotAt (w .endpoint) i)))
       this-one = carried-cut (storeAt w₀ i) 2 c refl (m .tickets i is) (fits i is .ticket-is)
 
-      at : (j : ℕ) → j ≤ 1 → Which i j → Carried (Cut j) (slotAt (w₀ .endpoint) j) (slotAt (withSlot (w .endpoint) i (idled (slotAt (w .endpoint) i))) j) (storeAt w₀ j) (log j) (quietly j 2 (slotAt (withSlot (w .endpoint) i (idled (slotAt (w .endpoint) i))) j))
+      at : (j : ℕ) → j ≤ 1 → Which i j → Carried (Cut j) (slotAt (w₀ .endpoint) j) (slotAt (withSlot (w .endpoint) i (idled (slotAt (w .endpoint) i))) j) (storeAt w₀ j) (trace j) (quietly j 2 (slotAt (withSlot (w .endpoint) i (idled (slotAt (w .endpoint) i))) j))
       at j js (this q) = rw (q, slot-this i is v (idled (slotAt (w .endpoint) i))) this-one
       at j js (that q) = rw (q, slot-that i is v (idled (slotAt (w .endpoint) i))) (mid-carried w m 2 (otherSlot i) (other-most i) (slotAt (w .endpoint) (otherSlot i)) refl refl)
 
   -- Get State
   clear-alike : (e : Endpoint) → Valid e → (i : ℕ) → i ≤ 1 → Alike e (clearFlags e i)
   unfolding clearFlags
-  clear-alike e v i is = record { same-phase = λ j js. phase j (which i j is js); same-ticket = λ j js. ticket j (which i j is js); same-turn = refl; same-last = refl }
+  clear-alike e v i is = record { same-phase = λ j js. phase j (which i j is js); same-ticket = λ j js. ticket j (which i j is js); frame = refl }
     where
       phase : (j : ℕ) → Which i j → slotAt (withSlot e i (withBusy (slotAt e i) false)) j .phase ≡ slotAt e j .phase
       phase j (this q) = rw (q, slot-this i is v (withBusy (slotAt e i) false)) refl
@@ -554,8 +532,7 @@ module _ (w₀ : World) (packet : List ℕ) (log : ℕ → Log) (s₀ : Sound w�
       fault : Ends (outcome 2 w)
       fault =
           record {
-            turn-is = m .turn-is;
-            last-is = m .last-is;
+            frame = m .frame;
             carried = λ j js. rw (m .stores j) (mid-carried w m 2 j js (slotAt (w .endpoint) j) refl refl);
           }
 
@@ -564,17 +541,16 @@ module _ (w₀ : World) (packet : List ℕ) (log : ℕ → Log) (s₀ : Sound w�
       go NoFault e =
           let a = primitive-acts w m (opcodeOf (payloadOf packet)) (messageHeader (payloadOf packet) .csi) (clearsFlags (payloadOf packet)) (csi-most (payloadOf packet)) (is-abort c e) in
           record {
-            turn-is = a .turn-same ∙ m .turn-is;
-            last-is = a .last-same ∙ m .last-is;
+            frame = a .frame ∙ m .frame;
             carried = λ j js. rw (m .stores j) (a .each j js);
           }
-      go (Parameter byte bit) e = record { turn-is = fault .turn-is; last-is = fault .last-is; carried = fault .carried }
-      go (Failure status) e = record { turn-is = fault .turn-is; last-is = fault .last-is; carried = fault .carried }
+      go (Parameter byte bit) e = record { frame = fault .frame; carried = fault .carried }
+      go (Failure status) e = record { frame = fault .frame; carried = fault .carried }
 
   -- ---- the whole
 
   pub start-mid : Mid w₀
-  start-mid = record { sound = s₀; turn-is = refl; last-is = refl; stores = λ j. refl; tickets = λ j js. refl; phases = λ j js. kept refl }
+  start-mid = record { sound = s₀; frame = refl; stores = λ j. refl; tickets = λ j js. refl; phases = λ j js. kept refl }
 
   the-walk : Walk w₀ packet Mid Ends
   the-walk =
@@ -585,8 +561,8 @@ module _ (w₀ : World) (packet : List ℕ) (log : ℕ → Log) (s₀ : Sound w�
         busying = busying;
         dropping = dropping;
         failing = failing;
-        gaining = gain;
-        entering = enter;
+        gaining = λ w i at j _ lo m. gain w i at j lo m;
+        entering = λ w i at j _ lo right m. enter w i at j lo right m;
         controlling = control;
       }
 
@@ -603,8 +579,7 @@ module _ (w₀ : World) (packet : List ℕ) (log : ℕ → Log) (s₀ : Sound w�
   ended-mid som =
       record {
         sound = unfold endAssembly in (sound-endpoint s₀ (end-valid (fields packet .source) (fields packet .tag) (s₀ .state)));
-        turn-is = refl;
-        last-is = refl;
+        frame = refl;
         stores = λ j. refl;
         tickets = λ j js. rw (slot-both over (w₀ .endpoint) j js) (ticket (slotAt (w₀ .endpoint) j));
         phases = λ j js. rw (slot-both over (w₀ .endpoint) j js) (phase (slotAt (w₀ .endpoint) j));
@@ -621,5 +596,5 @@ module _ (w₀ : World) (packet : List ℕ) (log : ℕ → Log) (s₀ : Sound w�
           if-ind (λ (x : Slot). MidPhase (s .phase) (x .phase)) (gathers (fields packet .source) (fields packet .tag) (s .phase))
           (λ g. ended som (gathers-early (fields packet .source) (fields packet .tag) (s .phase) g) refl) (λ _. kept refl)
 
-  pub received-carries : Carries (receive packet) w₀ log (byOutcome (received w₀ packet))
+  pub received-carries : Carries (receive packet) w₀ trace (byOutcome (received w₀ packet))
   received-carries = walked w₀ packet Mid Ends the-walk s₀ (λ _. start-mid) ended-mid

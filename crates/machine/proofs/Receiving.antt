@@ -1,38 +1,36 @@
 -- Every way through "Receiving", walked once: a property that each of its steps keeps or leads to, a received packet has.
 -- Assumes nothing.
-use Prim.Native.Nat.{ℕ, suc, _+_, _-_, _*_, _%_, _^_, _≤_, _<_}
-use mathlib.Core.Path.{_≡_, refl, sym, _∙_}
+use Prim.Native.Nat.{ℕ, suc, _+_, _%_, _≤_}
+use mathlib.Core.Path.{_≡_, refl, sym}
 use mathlib.Core.Bool.{Bool, true, false, not, _&&_, _||_}
-use mathlib.Core.List.{List, _∷_, _++_}
+use mathlib.Core.List.{List}
 use native.Mathlib.Nat.{mod-lt, zero-lt-suc}
 use native.Mathlib.Omega.{arith}
 use lib.Dec.{eqb, ltb}
 use lib.ListN.{length, take, length-drop}
 use borrow.Author.Tests.{ltb-false, eqb-true, not-true, not-false}
-use Rattle.lent.specs.Choice.{if_then_else_}
 use Rattle.lent.specs.Bytes.{byteAt, isSet, put}
-use Rattle.lent.proofs.Choice.{if-ind, if-second, or-left, or-right, false-true}
+use Rattle.lent.proofs.Choice.{if-ind, if-second, or-left, or-right, false-true, differ}
 use Rattle.mctp.specs.Header.{readHeader, fields, same, payloadOf}
 use Rattle.mctp.specs.Gather.{isCut, joinRefusal, no-assembly, not-full}
 use Rattle.mctp.specs.declared.Header.{Header}
 use Rattle.mctp.specs.declared.Read.{Read}
 use Rattle.mctp.specs.declared.Read.the-variants.{Refused, Packet}
-use Rattle.nvme_mi.specs.Message.{message-type, control, messageHeader}
+use Rattle.nvme_mi.specs.Message.{message-type, control, messageHeader, smallest, control-size}
 use Rattle.nvme_mi.specs.Check.{checkRight}
-use Rattle.machine.specs.Answers.{more-to-come, command-complete, control-done, check-wrong, not-a-request, message-too-short, not-twelve}
+use Rattle.opening.specs.Opening.{opened, joinedIn, check-wrong, not-a-request, message-too-short, not-twelve}
+use Rattle.opening.specs.declared.First.{First}
+use Rattle.opening.specs.declared.Joined.{Joined}
+use Rattle.machine.specs.Answers.{more-to-come, command-complete, control-done}
 use Rattle.machine.specs.State.{World, Outcome, outcome, slotAt, storeAt, withStore, withEndpoint, onSlot, withPhase, isIdle}
-use Rattle.machine.specs.Wire.{unit, store-size, smallest, control-size, inward, wrongStores}
+use Rattle.machine.specs.Wire.{unit, store-size, inward, wrongStores}
 use Rattle.machine.specs.Process.{entered}
 use Rattle.machine.specs.Control.{controlled}
-use Rattle.machine.specs.Receive.{refused, refusedBusy, dropped, gathers, isFrom, endAssembly, holder, checked, joined, assembly, gathered, firstControl, firstCommand, firstMessage, first, laterAt, laterBy, later, receivedBy, received}
+use Rattle.machine.specs.Receive.{refused, refusedBusy, dropped, gathers, isFrom, endAssembly, holder, assembly, landed, gathered, firstCommand, firstBy, first, laterAt, laterBy, later, receivedBy, received}
 use Rattle.machine.specs.Poll.{otherSlot}
 use Rattle.machine.specs.Valid.{Sound, PhaseFacts}
 use Rattle.machine.specs.History.{hasSom, receivesFrom}
-use Rattle.machine.specs.declared.Assembly.{Assembly}
-use Rattle.machine.specs.declared.Phase.{Phase}
-use Rattle.machine.specs.declared.Phase.the-variants.{Idle, Receive, Process, Answered, Transmit}
-use Rattle.machine.specs.declared.Holder.{Holder}
-use Rattle.machine.specs.declared.Holder.the-variants.{Nowhere, At}
+use Rattle.machine.specs.Types.{Assembly, Phase, Idle, Receive, Process, Answered, Transmit, Holder, Nowhere, At}
 use Rattle.machine.proofs.Slots.{isEarly, idle-early, facts-at, alone-at, from-same, Holds, holder-at, holder-none, ended-at, other-most}
 
 -- ---- what the tests say of a payload
@@ -49,18 +47,15 @@ pub record Sized (packet : List ℕ) : Type 0 where
   pub some : 1 ≤ length (payloadOf packet)
   pub most : length (payloadOf packet) ≤ unit
 
-refused-packet : {A : Type 0} {n : ℕ} {h : Header} → Refused n ≡ Packet h → A
-refused-packet {n = n} {h = h} e = absurd (omega (arith, zero-one e))
-  where
-    zero-one : Refused n ≡ Packet h → _≡_ {A = ℕ} 0 1
-    zero-one e = cc
+not-read : {A : Type 0} {n : ℕ} {h : Header} → Refused n ≡ Packet h → A
+not-read e = differ (cc e)
 
 -- a packet that is read has a header and 1 to 64 payload bytes
 pub packet-sized : (eid : ℕ) (packet : List ℕ) {h : Header} → readHeader eid unit inward packet ≡ Packet h → (5 ≤ length packet) × (length packet ≤ 68)
 unfolding readHeader
 packet-sized eid packet e =
-    let a = if-second (ltb (length packet) 5) refused-packet e in
-    let b = if-second (ltb (unit + 4) (length packet)) refused-packet (a .1) in
+    let a = if-second (ltb (length packet) 5) not-read e in
+    let b = if-second (ltb (unit + 4) (length packet)) not-read (a .1) in
     (ltb-false (length packet) 5 (a .0), ltb-false 68 (length packet) (b .0))
 
 read-sized : (eid : ℕ) (packet : List ℕ) {h : Header} → readHeader eid unit inward packet ≡ Packet h → Sized packet
@@ -103,11 +98,11 @@ pub record ReadSo (eid : ℕ) (packet : List ℕ) (h : Header) : Type 0 where
 pub read-facts : (eid : ℕ) (packet : List ℕ) {h : Header} → readHeader eid unit inward packet ≡ Packet h → ReadSo eid packet h
 unfolding readHeader
 read-facts eid packet {h} e =
-    let a = if-second (ltb (length packet) 5) refused-packet e in
-    let b = if-second (ltb (unit + 4) (length packet)) refused-packet (a .1) in
-    let c = if-second (not (eqb (byteAt packet 0 % 16) 1)) refused-packet (b .1) in
-    let d = if-second (not (eqb (byteAt packet 1) eid)) refused-packet (c .1) in
-    let f = if-second (not (same (isSet (byteAt packet 3) 3) inward)) refused-packet (d .1) in
+    let a = if-second (ltb (length packet) 5) not-read e in
+    let b = if-second (ltb (unit + 4) (length packet)) not-read (a .1) in
+    let c = if-second (not (eqb (byteAt packet 0 % 16) 1)) not-read (b .1) in
+    let d = if-second (not (eqb (byteAt packet 1) eid)) not-read (c .1) in
+    let f = if-second (not (same (isSet (byteAt packet 3) 3) inward)) not-read (d .1) in
     record {
       version = not-false (eqb (byteAt packet 0 % 16) 1) (c .0);
       ours = not-false (eqb (byteAt packet 1) eid) (d .0);
@@ -159,15 +154,16 @@ module _ (w₀ : World) (packet : List ℕ) where
 
   -- where the payload of a command's packet goes: at the start of the slot that CSI names, or behind the bytes of the assembly that it joins
   pub data Origin (w : World) (i : ℕ) : ℕ → Type 0 where
-    opens : hasSom packet ≡ true → i ≡ byteAt message 1 % 2 → Origin w i 0
+    opens : hasSom packet ≡ true → i ≡ byteAt message 1 % 2 → isCut unit header (length message) ≡ false → Origin w i 0
     goes-on : hasSom packet ≡ false → (a : Assembly) → slotAt (w .endpoint) i .phase ≡ Receive a
-        → isFrom (header .source) (header .tag) a ≡ true → Origin w i (a .length)
+        → isFrom (header .source) (header .tag) a ≡ true → joinRefusal unit store-size (a .sequence) (a .length) header (length message) ≡ 0 → Origin w i (a .length)
 
   -- a command's packet that is not refused before it is stored
   pub record Joining (w : World) (i at : ℕ) : Type 0 where
     pub slot-is : i ≤ 1
     pub early : isEarly (slotAt (w .endpoint) i .phase) ≡ true
     pub alone : gathers (header .source) (header .tag) (slotAt (w .endpoint) (otherSlot i) .phase) ≡ false
+    pub read-so : readHeader (w₀ .endpoint .eid) unit inward packet ≡ Packet header
     pub fits : at + length message ≤ store-size
     pub origin : Origin w i at
 
@@ -228,9 +224,9 @@ module _ (w₀ : World) (packet : List ℕ) where
     -- the packet is refused, and the slot that it was for goes to Idle
     pub dropping : (w : World) (i n : ℕ) → Break n → Gathering w i → P w → Q (refused (dropped w i) n)
     pub failing : (w : World) (i at : ℕ) → Joining w i at → P w → Q (refused (dropped (filled w i at) i) check-wrong)
-    pub gaining : (w : World) (i at : ℕ) → Joining w i at → unit ≤ at + length message → P w
+    pub gaining : (w : World) (i at : ℕ) → Joining w i at → header .eom ≡ false → unit ≤ at + length message → P w
         → Q (outcome more-to-come (onSlot (filled w i at) i (withPhase (slotAt (w .endpoint) i) (Receive (grown at)))))
-    pub entering : (w : World) (i at : ℕ) → Joining w i at → smallest ≤ at + length message → checkRight (whole w i at) ≡ true → P w
+    pub entering : (w : World) (i at : ℕ) → Joining w i at → header .eom ≡ true → smallest ≤ at + length message → checkRight (whole w i at) ≡ true → P w
         → Q (outcome command-complete (entered (filled w i at) i (grown at) (messageHeader (whole w i at))))
     pub controlling : (w : World) → Controls → P w → Q (outcome control-done (withEndpoint w (controlled (w .endpoint) header (messageHeader message) message)))
 
@@ -256,42 +252,24 @@ module _ (w₀ : World) (packet : List ℕ) (P : World → Type 0) (Q : Outcome 
 
   gathered-walk : (w : World) (i at : ℕ) → Joining w₀ packet w i at → (H .eom ≡ true → smallest ≤ at + length M)
       → (H .eom ≡ false → unit ≤ at + length M) → P w → Q (gathered w i at H M)
-  unfolding gathered joined checked
+  unfolding gathered joinedIn
   gathered-walk w i at j last more p =
-      if-ind Q (H .eom)
+      if-ind R (not (H .eom)) (λ e. k .gaining w i at j (not-true (H .eom) e) (more (not-true (H .eom) e)) p)
       (λ e.
-      if-ind Q (not (checkRight (take (at + length M) (storeAt (filled w₀ packet w i at) i)))) (λ _. k .failing w i at j p) (λ right. k .entering w i at j (last e) (not-false (checkRight (whole w₀ packet w i at)) right) p))
-      (λ e. k .gaining w i at j (more e) p)
-
-  control-walk : (w : World) → readHeader (w₀ .endpoint .eid) unit inward packet ≡ Packet H → H .som ≡ true → byteAt M 0 ≡ message-type
-      → messageHeader M .ror ≡ false → messageHeader M .nmimt ≡ control → P w → Q (firstControl w H (messageHeader M) M)
-  unfolding firstControl
-  control-walk w read-so som typed request kind p =
-      if-ind Q (not (H .eom) || not (eqb (length M) control-size)) (λ _. k .refusing w not-twelve (in-table som (omega arith) (omega arith)) p)
-      (λ one.
-      if-ind Q (not (checkRight M)) (λ _. k .refusing w check-wrong (in-table som (omega arith) (omega arith)) p)
-      (λ right.
-      k .controlling w
-      (record {
-        read-so = read-so;
-        som = som;
-        eom = not-false (H .eom) (or-left (not (H .eom)) (not (eqb (length M) control-size)) one);
-        twelve = eqb-true (length M) control-size (not-false (eqb (length M) control-size) (or-right (not (H .eom)) (not (eqb (length M) control-size)) one));
-        typed = typed;
-        request = request;
-        kind = kind;
-        right = not-false (checkRight M) right;
-      })
-      p))
+      if-ind R (not (checkRight (take (at + length M) (storeAt (filled w₀ packet w i at) i)))) (λ _. k .failing w i at j p)
+      (λ right. k .entering w i at j (not-false (H .eom) e) (last (not-false (H .eom) e)) (not-false (checkRight (whole w₀ packet w i at)) right) p))
+    where
+      R : Joined → Type 0
+      R o = Q (landed (filled w₀ packet w i at) i (grown w₀ packet at) o)
 
   -- once an assembly with this source and tag has ended
   abbrev Free : World → Type 0
   Free w = (i : ℕ) → i ≤ 1 → gathers (H .source) (H .tag) (slotAt (w .endpoint) i .phase) ≡ false
 
-  command-walk : (w : World) → Free w → H .som ≡ true → length M ≤ unit → (H .eom ≡ true → smallest ≤ length M)
-      → (H .eom ≡ false → length M ≡ unit) → P w → Q (firstCommand w H (messageHeader M .csi) M)
+  command-walk : (w : World) → readHeader (w₀ .endpoint .eid) unit inward packet ≡ Packet H → Free w → H .som ≡ true → length M ≤ unit
+      → isCut unit H (length M) ≡ false → (H .eom ≡ true → smallest ≤ length M) → (H .eom ≡ false → length M ≡ unit) → P w → Q (firstCommand w H (messageHeader M .csi) M)
   unfolding firstCommand
-  command-walk w free som hi last more p =
+  command-walk w read-so free som hi cut last more p =
       let i = messageHeader M .csi in
       let is = csi-most M in
       if-ind Q (not (isIdle (slotAt (w .endpoint) i .phase)))
@@ -302,32 +280,54 @@ module _ (w₀ : World) (packet : List ℕ) (P : World → Type 0) (Q : Outcome 
         slot-is = is;
         early = idle-early (slotAt (w .endpoint) i .phase) (not-false (isIdle (slotAt (w .endpoint) i .phase)) idle);
         alone = free (otherSlot i) (other-most i);
+        read-so = read-so;
         fits = omega arith;
-        origin = opens som refl;
+        origin = opens som refl cut;
       })
       (λ e. omega (arith, last e)) (λ e. omega (arith, more e)) p)
 
   first-walk : (w : World) → readHeader (w₀ .endpoint .eid) unit inward packet ≡ Packet H → Free w → H .som ≡ true → length M ≤ unit → P w → Q (first w H M)
-  unfolding first firstMessage
+  unfolding first opened
   first-walk w read-so free som hi p =
-      if-ind Q (not (eqb (byteAt M 0) message-type)) (λ _. k .refusing w not-a-request (in-table som (omega arith) (omega arith)) p)
+      if-ind R (not (eqb (byteAt M 0) message-type)) (λ _. k .refusing w not-a-request (in-table som (omega arith) (omega arith)) p)
       (λ typed.
-      if-ind Q (isCut unit H (length M)) (λ _. k .refusing w not-full (in-table som (omega arith) (omega arith)) p)
+      if-ind R (isCut unit H (length M)) (λ _. k .refusing w not-full (in-table som (omega arith) (omega arith)) p)
       (λ cut.
-      if-ind Q (H .eom && ltb (length M) smallest) (λ _. k .refusing w message-too-short (in-table som (omega arith) (omega arith)) p)
+      if-ind R (H .eom && ltb (length M) smallest) (λ _. k .refusing w message-too-short (in-table som (omega arith) (omega arith)) p)
       (λ short.
-      if-ind Q (messageHeader M .ror) (λ _. k .refusing w not-a-request (in-table som (omega arith) (omega arith)) p)
+      if-ind R (not (same (messageHeader M .ror) false)) (λ _. k .refusing w not-a-request (in-table som (omega arith) (omega arith)) p)
       (λ request.
-      if-ind Q (eqb (messageHeader M .nmimt) control)
+      if-ind R (not (eqb (messageHeader M .nmimt) control))
+      (λ _. command-walk w read-so free som hi cut (whole-message H (length M) short) (full-unit H (length M) cut) p)
       (λ kind.
-      control-walk w read-so som (eqb-true (byteAt M 0) message-type (not-false (eqb (byteAt M 0) message-type) typed)) request
-      (eqb-true (messageHeader M .nmimt) control kind) p)
-      (λ _. command-walk w free som hi (whole-message H (length M) short) (full-unit H (length M) cut) p)))))
+      if-ind R (not (H .eom) || not (eqb (length M) control-size)) (λ _. k .refusing w not-twelve (in-table som (omega arith) (omega arith)) p)
+      (λ one.
+      if-ind R (not (checkRight M)) (λ _. k .refusing w check-wrong (in-table som (omega arith) (omega arith)) p)
+      (λ right.
+      k .controlling w
+      (record {
+        read-so = read-so;
+        som = som;
+        eom = not-false (H .eom) (or-left (not (H .eom)) (not (eqb (length M) control-size)) one);
+        twelve = eqb-true (length M) control-size (not-false (eqb (length M) control-size) (or-right (not (H .eom)) (not (eqb (length M) control-size)) one));
+        typed = eqb-true (byteAt M 0) message-type (not-false (eqb (byteAt M 0) message-type) typed);
+        request = was-false (messageHeader M .ror) request;
+        kind = eqb-true (messageHeader M .nmimt) control (not-false (eqb (messageHeader M .nmimt) control) kind);
+        right = not-false (checkRight M) right;
+      })
+      p)))))))
+    where
+      R : First → Type 0
+      R o = Q (firstBy w H M o)
 
-  later-at : (w : World) (i : ℕ) (a : Assembly) → Holds (w .endpoint) (H .source) (H .tag) i a → H .som ≡ false → 1 ≤ length M
-      → P w → Q (laterBy w H M (At i a))
+      was-false : (b : Bool) → not (same b false) ≡ false → b ≡ false
+      was-false true e = false-true (sym e)
+      was-false false e = refl
+
+  later-at : (w : World) (i : ℕ) (a : Assembly) → readHeader (w₀ .endpoint .eid) unit inward packet ≡ Packet H → Holds (w .endpoint) (H .source) (H .tag) i a
+      → H .som ≡ false → 1 ≤ length M → P w → Q (laterBy w H M (At i a))
   unfolding laterAt
-  later-at w i a held som lo p =
+  later-at w i a read-so held som lo p =
       let is = held .slot-is in
       let early : isEarly (slotAt (w .endpoint) i .phase) ≡ true = rw (held .gathers-it) refl in
       let same = from-same (H .source) (H .tag) a (held .from-it) in
@@ -340,18 +340,25 @@ module _ (w₀ : World) (packet : List ℕ) (P : World → Type 0) (Q : Outcome 
       (λ none.
       let j = joins unit store-size (a .sequence) (a .length) (length M) H (eqb-true refusal 0 none) in
       gathered-walk w i (a .length)
-      (record { slot-is = is; early = early; alone = free; fits = j .fits; origin = goes-on som a (held .gathers-it) (held .from-it) })
+      (record {
+        slot-is = is;
+        early = early;
+        alone = free;
+        read-so = read-so;
+        fits = j .fits;
+        origin = goes-on som a (held .gathers-it) (held .from-it) (eqb-true refusal 0 none);
+      })
       (λ _. omega (arith, size .0)) (λ _. omega (arith, size .0)) p)
       (λ some. k .dropping w i refusal (join-break w₀ packet som (a .sequence) (a .length) (length M) H some)
       (record { slot-is = is; assembly-is = a; gathers-it = held .gathers-it; from-it = held .from-it }) p)
 
-  later-walk : H .som ≡ false → 1 ≤ length M → P w₀ → Q (later w₀ H M)
+  later-walk : readHeader (w₀ .endpoint .eid) unit inward packet ≡ Packet H → H .som ≡ false → 1 ≤ length M → P w₀ → Q (later w₀ H M)
   unfolding later
-  later-walk som lo p = go (holder (w₀ .endpoint) (H .source) (H .tag)) refl
+  later-walk read-so som lo p = go (holder (w₀ .endpoint) (H .source) (H .tag)) refl
     where
       go : (x : Holder) → holder (w₀ .endpoint) (H .source) (H .tag) ≡ x → Q (laterBy w₀ H M x)
       go Nowhere e = k .refusing w₀ no-assembly (of-no-slot som (holder-none (w₀ .endpoint) (H .source) (H .tag) e)) p
-      go (At i a) e = later-at w₀ i a (holder-at (w₀ .endpoint) (H .source) (H .tag) e) som lo p
+      go (At i a) e = later-at w₀ i a read-so (holder-at (w₀ .endpoint) (H .source) (H .tag) e) som lo p
 
 -- A packet that comes with stores of the right length: without SOM the walk starts in the world as it is, with SOM where an assembly with its
 -- source and tag has ended.
@@ -372,4 +379,4 @@ walked w packet P Q k s p finished =
         (λ som.
         first-walk w packet P Q k (withEndpoint w (endAssembly (w .endpoint) (fields packet .source) (fields packet .tag))) read-so
         (λ i is. ended-at (w .endpoint) (fields packet .source) (fields packet .tag) i is) som (z .most) (finished som))
-        (λ som. later-walk w packet P Q k som (z .some) (p som)))
+        (λ som. later-walk w packet P Q k read-so som (z .some) (p som)))

@@ -9,9 +9,8 @@ use lib.Dec.{eqb, ltb}
 use lib.ListN.{length}
 use lib.Seq.{getD-drop}
 use borrow.Author.Tests.{eq-eqb, ne-eqb, eqb-false, ltb-true}
-use Rattle.lent.specs.Choice.{if_then_else_}
 use Rattle.lent.specs.Bytes.{byteAt}
-use Rattle.lent.proofs.Choice.{if-ind, false-true, and-both}
+use Rattle.lent.proofs.Choice.{if-ind, false-true, and-both, differ}
 use Rattle.mctp.specs.Header.{fields}
 use Rattle.machine.specs.State.{World, Outcome, slotAt, withEndpoint, isIdle}
 use Rattle.machine.specs.Wire.{packet-room, wrongStores}
@@ -19,22 +18,12 @@ use Rattle.machine.specs.Receive.{refused, refusedBusy, dropped, endAsse
 use Rattle.machine.specs.Finish.{isSlot, takenRow, takenFrom, taken, isBody, isPresent, completedRow, completedIn, completed, isReceive, timedOut}
 use Rattle.machine.specs.Poll.{Polled, ready, replyFirst, polledBy, polled}
 use Rattle.machine.specs.Valid.{Valid, Sound}
-use Rattle.machine.specs.Calls.{receive, take!, read, complete, poll, timeout, reset, number, given, part-read, handed-out, takeEvent, pollEvent, step}
+use Rattle.machine.specs.Calls.{receive, take!, read, complete, poll, timeout, reset, number, given, handed-out, takeEvent, pollEvent, step}
 use Rattle.machine.specs.History.{hasSom, sourceOf, messageTagOf, phaseAt, receivesFrom, isFor}
 use Rattle.machine.specs.Numbers.{rightSizes}
 use Rattle.machine.specs.Demands.{isIdleNow}
 use Rattle.machine.specs.Refusals.{FlagColumn, assemblyEnded, placeIn, stored, Leaves, unread, tabled, busy, unknown, broken, failed, RefusedPacket, WrongStores, RefusedCall, isOneOf, Named}
-use Rattle.machine.specs.declared.Ticket.{Ticket}
-use Rattle.machine.specs.declared.Taking.{Taking}
-use Rattle.machine.specs.declared.Taking.the-variants.{Untaken, Taken}
-use Rattle.machine.specs.declared.Request.{Request}
-use Rattle.machine.specs.declared.Phase.{Phase}
-use Rattle.machine.specs.declared.Phase.the-variants.{Idle, Receive, Process, Answered, Transmit}
-use Rattle.machine.specs.declared.Endpoint.{Endpoint}
-use Rattle.machine.specs.declared.Done.{Done}
-use Rattle.machine.specs.declared.TakeDone.{TakeDone}
-use Rattle.machine.specs.declared.Ready.{Ready}
-use Rattle.machine.specs.declared.Ready.the-variants.{Nothing, From}
+use Rattle.machine.specs.Types.{Ticket, Taking, Untaken, Taken, Request, Phase, Idle, Receive, Process, Answered, Transmit, Endpoint, Done, TakeDone, Ready, Nothing, From}
 use Rattle.machine.proofs.Receiving.{receives-gathers, Origin, opens, goes-on, Joining, filled, Ground, in-table, of-no-slot, Busy, Gathering, Break, in-sequence, in-size, in-total, Walk, walked}
 use Rattle.machine.proofs.Numbers.{wrong-sizes}
 use Rattle.machine.proofs.Keeps.{sound-endpoint, sound-of, end-valid}
@@ -68,25 +57,25 @@ module _ (w₀ : World) (p : List ℕ) (s₀ : Sound w₀) where
       )
       refl
 
-  abbrev Left : Outcome → Type 0
-  Left o = 3 ≤ o .answer → Leaves w₀ p (o .answer) (o .world)
+  abbrev Told : Outcome → Type 0
+  Told o = 3 ≤ o .answer → Leaves w₀ p (o .answer) (o .world)
 
   without : hasSom p ≡ false → assemblyEnded w₀ p ≡ w₀
   without som = rw som refl
 
-  refuses : (w : World) (n : ℕ) → Ground w₀ p n → At w → Left (refused w n)
+  refuses : (w : World) (n : ℕ) → Ground w₀ p n → At w → Told (refused w n)
   unfolding refused
   refuses w n (in-table som lo hi) a _ = rw (a .is) (tabled som lo hi)
   refuses w _ (of-no-slot som none) a _ =
       rw (a .is ∙ without som) (unknown som (λ i is. receives-gathers (sourceOf p) (messageTagOf p) (phaseAt w₀ i) ∙ none i is))
 
-  busies : (w : World) (i : ℕ) → Busy w₀ p w i → At w → Left (refusedBusy w i)
+  busies : (w : World) (i : ℕ) → Busy w₀ p w i → At w → Told (refusedBusy w i)
   unfolding refusedBusy
   busies w i b a _ =
       let named : i ≡ byteAt p 5 % 2 = b .named ∙ rw (getD-drop 4 p 1 0) refl in
       rw (a .is) (busy i (b .som) named (idle-now (phaseAt (assemblyEnded w₀ p) i) ∙ rw (a .is) at (b .occupied)))
 
-  drops : (w : World) (i n : ℕ) → Break w₀ p n → Gathering w₀ p w i → At w → Left (refused (dropped w i) n)
+  drops : (w : World) (i n : ℕ) → Break w₀ p n → Gathering w₀ p w i → At w → Told (refused (dropped w i) n)
   unfolding refused
   drops w i n k g a _ = go k
     where
@@ -103,12 +92,12 @@ module _ (w₀ : World) (p : List ℕ) (s₀ : Sound w₀) where
 
   -- a command's packet goes to its slot, at its place
   its-slot : (w : World) (i : ℕ) {n : ℕ} → At w → Origin w₀ p w i n → (isFor i p w₀ ≡ true) × (n ≡ placeIn p (phaseAt w₀ i))
-  its-slot w i a (opens som e) = (rw (som, e, getD-drop 4 p 1 0) (eq-eqb (byteAt p 5 % 2) (byteAt p 5 % 2) refl), rw som refl)
-  its-slot w i a (goes-on som x ph fr) =
+  its-slot w i a (opens som e _) = (rw (som, e, getD-drop 4 p 1 0) (eq-eqb (byteAt p 5 % 2) (byteAt p 5 % 2) refl), rw som refl)
+  its-slot w i a (goes-on som x ph fr _) =
       let q : phaseAt w₀ i ≡ Receive x = rw (sym (without som), sym (a .is)) ph in
       (rw (som, q) fr, rw (som, q) refl)
 
-  fails : (w : World) (i at : ℕ) → Joining w₀ p w i at → At w → Left (refused (dropped (filled w₀ p w i at) i) 19)
+  fails : (w : World) (i at : ℕ) → Joining w₀ p w i at → At w → Told (refused (dropped (filled w₀ p w i at) i) 19)
   unfolding refused
   fails w i at j a _ =
       let k = its-slot w i a (j .origin) in
@@ -117,7 +106,7 @@ module _ (w₀ : World) (p : List ℕ) (s₀ : Sound w₀) where
       left : (v : World) → v ≡ stored w₀ i p → isFor i p w₀ ≡ true → Leaves w₀ p 19 (refused (dropped v i) 19 .world)
       left v e mine = unfold refused in (rw e (failed i mine (j .slot-is)))
 
-  the-walk : Walk w₀ p At Left
+  the-walk : Walk w₀ p At Told
   unfolding refused
   the-walk =
       record {
@@ -127,14 +116,14 @@ module _ (w₀ : World) (p : List ℕ) (s₀ : Sound w₀) where
         busying = busies;
         dropping = drops;
         failing = fails;
-        gaining = λ w i at j _ a h. absurd (omega arith);
-        entering = λ w i at j _ _ a h. absurd (omega arith);
+        gaining = λ w i at j _ _ a h. absurd (omega arith);
+        entering = λ w i at j _ _ _ a h. absurd (omega arith);
         controlling = λ w c a h. absurd (omega arith);
       }
 
 pub refused-packet : RefusedPacket
 refused-packet w p s h =
-    walked w p (At w p s) (Left w p s) (the-walk w p s) s (λ som. record { is = rw som refl; sound = s })
+    walked w p (At w p s) (Told w p s) (the-walk w p s) s (λ som. record { is = rw som refl; sound = s })
     (λ som. record { is = ended-is w p s som; sound = sound-endpoint s (end-valid (fields p .source) (fields p .tag) (s .state)) }) h
 
 -- ---- 40
@@ -158,29 +147,23 @@ same-number : {m n : ℕ} → number m ≡ number n → m ≡ n
 same-number e = cc
 
 given-number : {A : Type 0} {t : Ticket} {n : ℕ} → given t ≡ number n → A
-given-number {t = t} {n = n} e = absurd (omega (arith, zero-one e))
-  where
-    zero-one : given t ≡ number n → _≡_ {A = ℕ} 0 1
-    zero-one q = cc
+given-number e = differ (cc e)
 
 out-number : {A : Type 0} {s : List ℕ} {n : ℕ} → handed-out s ≡ number n → A
-out-number {s = s} {n = n} e = absurd (omega (arith, zero-one e))
-  where
-    zero-one : handed-out s ≡ number n → _≡_ {A = ℕ} 0 1
-    zero-one q = cc
+out-number e = differ (cc e)
 
 take-unchanged : (e : Endpoint) (i n : ℕ) → takeEvent (taken e i .answer) ≡ number n → taken e i .endpoint ≡ e
 unfolding taken
-take-unchanged e i n = if-ind Left? (not (isSlot i)) (λ _ _. refl) (λ _. from (slotAt e i .phase))
+take-unchanged e i n = if-ind Unchanged (not (isSlot i)) (λ _ _. refl) (λ _. from (slotAt e i .phase))
   where
-    Left? : TakeDone → Type 0
-    Left? d = takeEvent (d .answer) ≡ number n → d .endpoint ≡ e
+    Unchanged : TakeDone → Type 0
+    Unchanged d = takeEvent (d .answer) ≡ number n → d .endpoint ≡ e
 
-    row : (r : Request) (t : Taking) → Left? (takenRow e i r t)
+    row : (r : Request) (t : Taking) → Unchanged (takenRow e i r t)
     row r Untaken q = given-number q
     row r Taken q = refl
 
-    from : (p : Phase) → Left? (takenFrom e i p)
+    from : (p : Phase) → Unchanged (takenFrom e i p)
     from Idle q = refl
     from (Receive a) q = refl
     from (Process r) q = row r (r .taking) q
@@ -190,42 +173,42 @@ take-unchanged e i n = if-ind Left? (not (isSlot i)) (λ _ _. refl) (λ _. from 
 complete-unchanged : (w : World) (i : ℕ) (t : Ticket) (body : List ℕ) → 30 ≤ completed w i t body .answer → completed w i t body .world ≡ w
 unfolding completed
 complete-unchanged w i t body =
-    if-ind Left? (wrongStores w) (λ _ _. refl) (λ _. if-ind Left? (not (isSlot i)) (λ _ _. refl) (λ _. into (slotAt (w .endpoint) i .phase)))
+    if-ind Unchanged (wrongStores w) (λ _ _. refl) (λ _. if-ind Unchanged (not (isSlot i)) (λ _ _. refl) (λ _. into (slotAt (w .endpoint) i .phase)))
   where
-    Left? : Outcome → Type 0
-    Left? o = 30 ≤ o .answer → o .world ≡ w
+    Unchanged : Outcome → Type 0
+    Unchanged o = 30 ≤ o .answer → o .world ≡ w
 
-    row : (r : Request) (u : Taking) → Left? (completedRow w i r body u)
+    row : (r : Request) (u : Taking) → Unchanged (completedRow w i r body u)
     row r Untaken = λ _. refl
-    row r Taken = if-ind Left? (not (isBody body)) (λ _ _. refl) (λ _ h. absurd (omega arith))
+    row r Taken = if-ind Unchanged (not (isBody body)) (λ _ _. refl) (λ _ h. absurd (omega arith))
 
-    into : (p : Phase) → Left? (completedIn w i t body p)
+    into : (p : Phase) → Unchanged (completedIn w i t body p)
     into Idle = λ _. refl
     into (Receive a) = λ _. refl
-    into (Process r) = if-ind Left? (not (isPresent t (slotAt (w .endpoint) i))) (λ _ _. refl) (λ _. row r (r .taking))
+    into (Process r) = if-ind Unchanged (not (isPresent t (slotAt (w .endpoint) i))) (λ _ _. refl) (λ _. row r (r .taking))
     into (Answered r) = λ _. refl
     into (Transmit r) = λ _. refl
 
 timeout-unchanged : (e : Endpoint) (i : ℕ) → 30 ≤ timedOut e i .answer → timedOut e i .endpoint ≡ e
 unfolding timedOut
 timeout-unchanged e i =
-    if-ind Left? (not (isSlot i)) (λ _ _. refl)
-    (λ _. if-ind Left? (not (isReceive (slotAt e i .phase)) || slotAt e i .paused) (λ _ _. refl) (λ _ h. absurd (omega arith)))
+    if-ind Unchanged (not (isSlot i)) (λ _ _. refl)
+    (λ _. if-ind Unchanged (not (isReceive (slotAt e i .phase)) || slotAt e i .paused) (λ _ _. refl) (λ _ h. absurd (omega arith)))
   where
-    Left? : Done → Type 0
-    Left? d = 30 ≤ d .answer → d .endpoint ≡ e
+    Unchanged : Done → Type 0
+    Unchanged d = 30 ≤ d .answer → d .endpoint ≡ e
 
 poll-unchanged : (w : World) (buffer : List ℕ) (n : ℕ) → pollEvent (polled w buffer .buffer) (polled w buffer .answer) ≡ number n → polled w buffer .endpoint ≡ w .endpoint
 unfolding polled
 poll-unchanged w buffer n =
-    if-ind Left? (wrongStores w) (λ _ _. refl) (λ _. if-ind Left? (ltb (length buffer) packet-room) (λ _ _. refl) (λ _. by (ready (w .endpoint))))
+    if-ind Unchanged (wrongStores w) (λ _ _. refl) (λ _. if-ind Unchanged (ltb (length buffer) packet-room) (λ _ _. refl) (λ _. by (ready (w .endpoint))))
   where
-    Left? : Polled → Type 0
-    Left? p = pollEvent (p .buffer) (p .answer) ≡ number n → p .endpoint ≡ w .endpoint
+    Unchanged : Polled → Type 0
+    Unchanged p = pollEvent (p .buffer) (p .answer) ≡ number n → p .endpoint ≡ w .endpoint
 
-    by : (x : Ready) → Left? (polledBy w buffer x)
-    by Nothing = if-ind Left? (w .endpoint .«reply_waits») (λ _ q. out-number q) (λ _ _. refl)
-    by (From i r) = if-ind Left? (replyFirst (w .endpoint)) (λ _ q. out-number q) (λ _ q. out-number q)
+    by : (x : Ready) → Unchanged (polledBy w buffer x)
+    by Nothing = if-ind Unchanged (w .endpoint .«reply_waits») (λ _ q. out-number q) (λ _ _. refl)
+    by (From i r) = if-ind Unchanged (replyFirst (w .endpoint)) (λ _ q. out-number q) (λ _ q. out-number q)
 
 -- ---- the numbers
 
@@ -286,8 +269,8 @@ module _ (w₀ : World) (p : List ℕ) (s₀ : Sound w₀) where
         busying = λ w i b _. unfold refusedBusy in refl;
         dropping = λ w i n k _ _. unfold refused in (break-named n k);
         failing = λ w i at j _. unfold refused in refl;
-        gaining = λ w i at j _ _. refl;
-        entering = λ w i at j _ _ _. refl;
+        gaining = λ w i at j _ _ _. refl;
+        entering = λ w i at j _ _ _ _. refl;
         controlling = λ w c _. refl;
       }
 
@@ -369,10 +352,7 @@ pub named : Named
 unfolding step
 named (receive p) w n v e = rw (sym (same-number e)) (receive-named w p v)
 named (take! i) w n v e = take-named (w .endpoint) i n e
-named (read i) w n v e = absurd (omega (arith, part-number e))
-  where
-    part-number : {s : List ℕ} → part-read s ≡ number n → _≡_ {A = ℕ} 0 1
-    part-number q = cc
+named (read i) w n v e = differ (cc e)
 named (complete i t body) w n v e = rw (sym (same-number e)) (complete-named w i t body)
 named (poll buffer) w n v e = poll-named w buffer n e
 named (timeout i) w n v e = rw (sym (same-number e)) (timeout-named (w .endpoint) i)

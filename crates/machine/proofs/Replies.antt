@@ -14,21 +14,22 @@ use borrow.Author.Tests.{le-ltb, eq-eqb, ne-eqb, eqb-true, eqb-false, ltb-true, 
 use Rattle.lent.specs.Choice.{if_then_else_}
 use Rattle.lent.specs.Bytes.{byteAt, isSet}
 use Rattle.lent.proofs.Choice.{if-ind, false-true, and-both}
-use Rattle.mctp.specs.Header.{readHeader, fields, payloadOf}
+use Rattle.mctp.specs.Header.{readHeader, same, fields, payloadOf}
 use Rattle.mctp.specs.Gather.{isCut}
-use Rattle.mctp.specs.declared.Header.{Header}
 use Rattle.mctp.specs.declared.Read.the-variants.{Packet}
-use Rattle.nvme_mi.specs.Message.{message-type, control, messageHeader, commandFault, controlFault}
+use Rattle.opening.specs.Opening.{opened}
+use Rattle.opening.specs.declared.First.{First}
+use Rattle.nvme_mi.specs.Message.{message-type, control, messageHeader, commandFault, controlFault, smallest, control-size}
 use Rattle.nvme_mi.specs.Check.{checkRight, withCheck}
 use Rattle.nvme_mi.specs.Response.{response, faultBody}
 use Rattle.nvme_mi.specs.declared.MessageHeader.{MessageHeader}
 use Rattle.nvme_mi.specs.declared.Fault.{Fault}
 use Rattle.nvme_mi.specs.declared.Fault.the-variants.{NoFault, Parameter, Failure}
 use Rattle.machine.specs.State.{World, Outcome, slot, slotAt, withSlot, withEndpoint, withBusy, idled, replySent, packetSent}
-use Rattle.machine.specs.Wire.{unit, smallest, control-size, packet-room, inward, wrongStores, opcodeOf, clearsFlags}
+use Rattle.machine.specs.Wire.{unit, packet-room, inward, wrongStores, opcodeOf, clearsFlags}
 use Rattle.machine.specs.Control.{bit, pausedSlot, pause, pauseWord, released, resumedSlot, resume, takenWord, abortWord, abort, stateNumber, stateWord, clearFlags, acted, primitive, replied, controlledBy, controlled}
 use Rattle.machine.specs.Process.{request, processing, responded, respondedAtOnce, pausedIf, entered}
-use Rattle.machine.specs.Receive.{refused, refusedBusy, endedSlot, endAssembly, firstControl, firstMessage, first, received}
+use Rattle.machine.specs.Receive.{refused, refusedBusy, endedSlot, endAssembly, firstBy, first, received}
 use Rattle.machine.specs.Finish.{isSlot, takenRow, takenFrom, taken, isBody, isPresent, completedRow, completedIn, completed, isReceive, timedOut, wasReset}
 use Rattle.machine.specs.Poll.{Polled, otherSlot, ready, controlPacket, sentControl, commandPacket, afterPacket, sentCommand, replyFirst, polledBy, polled}
 use Rattle.machine.specs.Valid.{PhaseFacts, ValidFlags, Valid, Sound}
@@ -36,23 +37,8 @@ use Rattle.machine.specs.Calls.{Call, receive, take!, read, complete, po
 use Rattle.machine.specs.History.{hasSom, sourceOf, messageTagOf, bytesFrom4, phaseAt, moved, one?, run, start, controlTests, isControl, isPrimitive, isAbort, cuts}
 use Rattle.machine.specs.Demands.{isIdleNow, replyPacket, AbortIdles}
 use Rattle.machine.specs.Replies.{PrimitiveDone, csiOf, isError, slotFound, worth, abortedProcess, abortedIn, stateOf, cpsrOf, bodyOf, unpaused, actedOn, flagsAfter, Replied, ControlReplied, isControlOut, SameReply, ReplyAfter, stays, goes, newer, was-reset, ReplyStays, ReplyFate, replaced, sent, replaces, hasRoom, replyFate, GoesWithin, ReplyGoes}
-use Rattle.machine.specs.declared.Ticket.{Ticket}
-use Rattle.machine.specs.declared.Taking.{Taking}
-use Rattle.machine.specs.declared.Taking.the-variants.{Untaken, Taken}
-use Rattle.machine.specs.declared.Assembly.{Assembly}
-use Rattle.machine.specs.declared.Request.{Request}
-use Rattle.machine.specs.declared.Response.{Response}
-use Rattle.machine.specs.declared.Phase.{Phase}
-use Rattle.machine.specs.declared.Phase.the-variants.{Idle, Receive, Process, Answered, Transmit}
-use Rattle.machine.specs.declared.Slot.{Slot}
-use Rattle.machine.specs.declared.Endpoint.{Endpoint}
-use Rattle.machine.specs.declared.Acted.{Acted}
-use Rattle.machine.specs.declared.Done.{Done}
-use Rattle.machine.specs.declared.TakeAnswer.{TakeAnswer}
+use Rattle.machine.specs.Types.{Ticket, Assembly, Taking, Untaken, Taken, Request, Outgoing, Phase, Idle, Receive, Process, Answered, Transmit, Slot, Endpoint, Done, TakeAnswer, TakeDone, Ready, Nothing, From, Acted}
 use Rattle.machine.specs.declared.TakeAnswer.the-variants.{Refused as TakeRefused, Given}
-use Rattle.machine.specs.declared.TakeDone.{TakeDone}
-use Rattle.machine.specs.declared.Ready.{Ready}
-use Rattle.machine.specs.declared.Ready.the-variants.{Nothing, From}
 use Rattle.machine.proofs.Slots.{facts-at}
 use Rattle.machine.proofs.Receiving.{filled, grown, whole, right-stores, Ground, in-table, of-no-slot, Break, in-sequence, in-size, in-total, Controls, Walk, walked, csi-most, receives-gathers}
 use Rattle.machine.proofs.Invariant.{Each, each}
@@ -339,8 +325,8 @@ module _ (w₀ : World) (p : List ℕ) (s₀ : Sound w₀) where
         busying = λ w i b _. unfold refusedBusy in (λ e. absurd (omega arith));
         dropping = λ w i n k g _. unfold refused in (λ e. break-not w₀ p n k e);
         failing = λ w i at j _. unfold refused in (λ e. absurd (omega arith));
-        gaining = λ w i at j _ _ e. absurd (omega arith);
-        entering = λ w i at j _ _ _ e. absurd (omega arith);
+        gaining = λ w i at j _ _ _ e. absurd (omega arith);
+        entering = λ w i at j _ _ _ _ e. absurd (omega arith);
         controlling = λ w c k _. (c, rw (k .is (c .som)) controls);
       }
 
@@ -367,25 +353,28 @@ module _ (w₀ : World) (p : List ℕ) (s₀ : Sound w₀) where
   is-read k = rw (eqb-true (length p) 16 (k .0), k .1 .0, k .1 .1 .0, k .1 .1 .1 .1 .1 .0) refl
 
   is-done : Each (controlTests (w₀ .endpoint .eid) p) → (w : World) → first w (fields p) (payloadOf p) .answer ≡ 2
-  unfolding first firstMessage firstControl
+  unfolding first opened
   is-done k w =
       let m = payloadOf p in
       let eom : fields p .eom ≡ true = k .1 .1 .1 .1 .0 in
       let rest = k .1 .1 .1 .1 .1 .1 in
       let twelve : length m ≡ 12 = rw (length-drop 4 p, eqb-true (length p) 16 (k .0)) refl in
-      if-ind Two (not (eqb (byteAt m 0) message-type)) (never _ (rw (rest .0) refl))
+      let ror : not (same (messageHeader m .ror) false) ≡ false = rw (not-true (messageHeader m .ror) (rest .1 .0)) refl in
+      if-ind By (not (eqb (byteAt m 0) message-type)) (never _ (rw (rest .0) refl))
       (λ _.
-      if-ind Two (isCut unit (fields p) (length m)) (never _ (rw eom refl))
+      if-ind By (isCut unit (fields p) (length m)) (never _ (rw eom refl))
       (λ _.
-      if-ind Two (fields p .eom && ltb (length m) smallest) (never _ (rw (eom, twelve) refl))
+      if-ind By (fields p .eom && ltb (length m) smallest) (never _ (rw (eom, twelve) refl))
       (λ _.
-      if-ind Two (messageHeader m .ror) (never _ (not-true (messageHeader m .ror) (rest .1 .0)))
+      if-ind By (not (same (messageHeader m .ror) false)) (never _ ror)
       (λ _.
-      if-ind Two (eqb (messageHeader m .nmimt) control)
+      if-ind By (not (eqb (messageHeader m .nmimt) control)) (never _ (rw (rest .1 .1 .0) refl))
       (λ _.
-      if-ind Two (not (fields p .eom) || not (eqb (length m) control-size)) (never _ (rw (eom, twelve) refl))
-      (λ _. if-ind Two (not (checkRight m)) (never _ (rw (rest .1 .1 .1 .0) refl)) (λ _. refl)))
-      (λ other. false-true (sym other ∙ rest .1 .1 .0))))))
+      if-ind By (not (fields p .eom) || not (eqb (length m) control-size)) (never _ (rw (eom, twelve) refl))
+      (λ _. if-ind By (not (checkRight m)) (never _ (rw (rest .1 .1 .1 .0) refl)) (λ _. refl)))))))
+    where
+      By : First → Type 0
+      By o = firstBy w (fields p) (payloadOf p) o .answer ≡ 2
 
   done-so : Each (controlTests (w₀ .endpoint .eid) p) → received w₀ p .answer ≡ 2
   unfolding received
@@ -481,16 +470,16 @@ entered-still w i a mh =
 
 taken-still : (e : Endpoint) (i : ℕ) → Still e (taken e i .endpoint)
 unfolding taken
-taken-still e i = if-ind Left (not (isSlot i)) (λ _. refl) (λ _. from (slotAt e i .phase))
+taken-still e i = if-ind StillSo (not (isSlot i)) (λ _. refl) (λ _. from (slotAt e i .phase))
   where
-    Left : TakeDone → Type 0
-    Left d = Still e (d .endpoint)
+    StillSo : TakeDone → Type 0
+    StillSo d = Still e (d .endpoint)
 
-    row : (r : Request) (t : Taking) → Left (takenRow e i r t)
+    row : (r : Request) (t : Taking) → StillSo (takenRow e i r t)
     row r Untaken = refl
     row r Taken = refl
 
-    from : (p : Phase) → Left (takenFrom e i p)
+    from : (p : Phase) → StillSo (takenFrom e i p)
     from Idle = refl
     from (Receive a) = refl
     from (Process r) = row r (r .taking)
@@ -500,52 +489,34 @@ taken-still e i = if-ind Left (not (isSlot i)) (λ _. refl) (λ _. from (slotAt 
 completed-still : (w : World) (i : ℕ) (t : Ticket) (body : List ℕ) → Still (w .endpoint) (completed w i t body .world .endpoint)
 unfolding completed
 completed-still w i t body =
-    if-ind Left (wrongStores w) (λ _. refl) (λ _. if-ind Left (not (isSlot i)) (λ _. refl) (λ _. into (slotAt (w .endpoint) i .phase)))
+    if-ind StillSo (wrongStores w) (λ _. refl) (λ _. if-ind StillSo (not (isSlot i)) (λ _. refl) (λ _. into (slotAt (w .endpoint) i .phase)))
   where
-    Left : Outcome → Type 0
-    Left o = Still (w .endpoint) (o .world .endpoint)
+    StillSo : Outcome → Type 0
+    StillSo o = Still (w .endpoint) (o .world .endpoint)
 
-    row : (r : Request) (u : Taking) → Left (completedRow w i r body u)
+    row : (r : Request) (u : Taking) → StillSo (completedRow w i r body u)
     row r Untaken = refl
-    row r Taken = if-ind Left (not (isBody body)) (λ _. refl) (λ _. responded-still w i r body)
+    row r Taken = if-ind StillSo (not (isBody body)) (λ _. refl) (λ _. responded-still w i r body)
 
-    into : (p : Phase) → Left (completedIn w i t body p)
+    into : (p : Phase) → StillSo (completedIn w i t body p)
     into Idle = refl
     into (Receive a) = refl
-    into (Process r) = if-ind Left (not (isPresent t (slotAt (w .endpoint) i))) (λ _. refl) (λ _. row r (r .taking))
+    into (Process r) = if-ind StillSo (not (isPresent t (slotAt (w .endpoint) i))) (λ _. refl) (λ _. row r (r .taking))
     into (Answered r) = refl
     into (Transmit r) = refl
 
 timed-out-still : (e : Endpoint) (i : ℕ) → Still e (timedOut e i .endpoint)
 unfolding timedOut
 timed-out-still e i =
-    if-ind Left (not (isSlot i)) (λ _. refl) (λ _. if-ind Left (not (isReceive (slotAt e i .phase)) || slotAt e i .paused) (λ _. refl) (λ _. refl))
+    if-ind StillSo (not (isSlot i)) (λ _. refl) (λ _. if-ind StillSo (not (isReceive (slotAt e i .phase)) || slotAt e i .paused) (λ _. refl) (λ _. refl))
   where
-    Left : Done → Type 0
-    Left d = Still e (d .endpoint)
-
-controlled-eid : (e : Endpoint) (h : Header) (mh : MessageHeader) (m : List ℕ) → controlled e h mh m .eid ≡ e .eid
-unfolding controlled primitive pause resume abort clearFlags
-controlled-eid e h mh m = by (controlFault mh (opcodeOf m))
-  where
-    Left : Acted → Type 0
-    Left a = a .endpoint .eid ≡ e .eid
-
-    by : (f : Fault) → controlledBy e h (mh .csi) m f .eid ≡ e .eid
-    by NoFault =
-        if-ind Left (eqb (opcodeOf m) 0) (λ _. refl)
-        (λ _.
-        if-ind Left (eqb (opcodeOf m) 1) (λ _. refl)
-        (λ _.
-        if-ind Left (eqb (opcodeOf m) 2) (λ _. refl)
-        (λ _. if-ind (λ (f : Endpoint). f .eid ≡ e .eid) (clearsFlags m) (λ _. refl) (λ _. refl))))
-    by (Parameter byte bit) = refl
-    by (Failure status) = refl
+    StillSo : Done → Type 0
+    StillSo d = Still e (d .endpoint)
 
 -- receiving: the reply is as it was, or a control primitive was done
 data Heard (e : Endpoint) (o : Outcome) : Type 0 where
   kept : eqb (o .answer) 2 ≡ false → Still e (o .world .endpoint) → Heard e o
-  done : o .answer ≡ 2 → o .world .endpoint .eid ≡ e .eid → Heard e o
+  done : o .answer ≡ 2 → Heard e o
 
 module _ (w₀ : World) (p : List ℕ) where
   abbrev On : World → Type 0
@@ -560,9 +531,9 @@ module _ (w₀ : World) (p : List ℕ) where
         busying = λ w i b k. unfold refusedBusy in (kept refl (k .1));
         dropping = λ w i n b g k. unfold refused in (kept (ne-eqb n 2 (break-not w₀ p n b)) (k .1));
         failing = λ w i at j k. unfold refused in (kept refl (k .1));
-        gaining = λ w i at j _ k. kept refl (k .1);
-        entering = λ w i at j _ _ k. kept refl (entered-still (filled w₀ p w i at) i (grown w₀ p at) (messageHeader (whole w₀ p w i at)) ∙ k .1);
-        controlling = λ w c k. done refl (controlled-eid (w .endpoint) (fields p) (messageHeader (payloadOf p)) (payloadOf p) ∙ ap (λ (x : Part). x .eid) (k .1));
+        gaining = λ w i at j _ _ k. kept refl (k .1);
+        entering = λ w i at j _ _ _ k. kept refl (entered-still (filled w₀ p w i at) i (grown w₀ p at) (messageHeader (whole w₀ p w i at)) ∙ k .1);
+        controlling = λ w c k. done refl;
       }
 
 heard : (w : World) (p : List ℕ) → Sound w → Heard (w .endpoint) (received w p)
@@ -578,7 +549,7 @@ data PollDoes (w : World) (buffer : List ℕ) : Stepped → Type 0 where
   replies : w .endpoint .«reply_waits» ≡ true
       → PollDoes w buffer (stepped (handed-out (controlPacket (w .endpoint))) (withEndpoint w (replySent (w .endpoint))))
   -- a command packet goes before a waiting reply only if the last packet was control
-  sends : (i : ℕ) (r : Response) → Chosen (w .endpoint) i r → (w .endpoint .«reply_waits» ≡ true → w .endpoint .«last_control» ≡ true)
+  sends : (i : ℕ) (r : Outgoing) → Chosen (w .endpoint) i r → (w .endpoint .«reply_waits» ≡ true → w .endpoint .«last_control» ≡ true)
       → PollDoes w buffer
       (stepped (handed-out (commandPacket w i r)) (withEndpoint w (packetSent (withSlot (w .endpoint) i (afterPacket (slotAt (w .endpoint) i) r)) (otherSlot i))))
 
@@ -597,7 +568,7 @@ poll-does w buffer s =
     reply-goes a =
         unfold sentControl in (rw (take-append-seam (controlPacket (w .endpoint)) (drop (length (controlPacket (w .endpoint))) buffer)) (replies a))
 
-    command-goes : (i : ℕ) (r : Response) → Chosen (w .endpoint) i r → replyFirst (w .endpoint) ≡ false → After (sentCommand w i r buffer)
+    command-goes : (i : ℕ) (r : Outgoing) → Chosen (w .endpoint) i r → replyFirst (w .endpoint) ≡ false → After (sentCommand w i r buffer)
     command-goes i r c first =
         unfold sentCommand in
         (rw (take-append-seam (commandPacket w i r) (drop (length (commandPacket w i r)) buffer))
@@ -619,10 +590,9 @@ data Effect (w : World) : Call → Stepped → Type 0 where
   passes : {buffer : List ℕ} {s : Stepped} → isControlOut w s ≡ false → SameReply (w .endpoint) (s .world .endpoint)
       → (w .endpoint .«reply_waits» ≡ true → w .endpoint .«last_control» ≡ true) → s .world .endpoint .«last_control» ≡ false → Effect w (poll buffer) s
   sends-it : {buffer : List ℕ} {s : Stepped} → w .endpoint .«reply_waits» ≡ true → isControlOut w s ≡ true
-      → s .event ≡ handed-out (replyPacket (w .endpoint)) → s .world .endpoint .«reply_waits» ≡ false → s .world .endpoint .eid ≡ w .endpoint .eid
-      → Effect w (poll buffer) s
-  renews : {p : List ℕ} {s : Stepped} → isControlOut w s ≡ false → s .event ≡ number 2 → s .world .endpoint .eid ≡ w .endpoint .eid → Effect w (receive p) s
-  resets : {s : Stepped} → isControlOut w s ≡ false → s .world .endpoint .«reply_waits» ≡ false → s .world .endpoint .eid ≡ w .endpoint .eid → Effect w reset s
+      → s .event ≡ handed-out (replyPacket (w .endpoint)) → s .world .endpoint .«reply_waits» ≡ false → Effect w (poll buffer) s
+  renews : {p : List ℕ} {s : Stepped} → isControlOut w s ≡ false → s .event ≡ number 2 → Effect w (receive p) s
+  resets : {s : Stepped} → isControlOut w s ≡ false → s .world .endpoint .«reply_waits» ≡ false → Effect w reset s
 
 -- a packet of a slot is no control packet
 of-slot : (w after : World) (bytes : List ℕ) (i : ℕ) → i ≤ 1 → moved (phaseAt w i) (phaseAt after i) ≡ true → isControlOut w (stepped (handed-out bytes) after) ≡ false
@@ -644,8 +614,7 @@ poll-effect w buffer v (replies waits) =
     let out : isControlOut w (stepped (handed-out (controlPacket (w .endpoint))) (withEndpoint w (replySent (w .endpoint)))) ≡ true =
     rw (moved-same (phaseAt w 0), moved-same (phaseAt w 1)) refl in
     let gone : replySent (w .endpoint) .«reply_waits» ≡ false = refl in
-    let same : replySent (w .endpoint) .eid ≡ w .endpoint .eid = refl in
-    sends-it waits out (ap handed-out (reply-packet (w .endpoint) (v .state .reply-twelve))) gone same
+    sends-it waits out (ap handed-out (reply-packet (w .endpoint) (v .state .reply-twelve))) gone
 poll-effect w buffer v (sends i r c last) =
     let t = afterPacket (slotAt (w .endpoint) i) r in
     let after = withEndpoint w (packetSent (withSlot (w .endpoint) i t) (otherSlot i)) in
@@ -662,7 +631,7 @@ effect (receive p) w v = by (heard w p v)
   where
     by : {o : Outcome} → Heard (w .endpoint) o → Effect w (receive p) (byOutcome o)
     by (kept n k) = keeps n refl k (λ _. refl)
-    by (done e same) = renews refl (ap number e) same
+    by (done e) = renews refl (ap number e)
 effect (take! i) w v = keeps refl (by (taken (w .endpoint) i .answer) (withEndpoint w (taken (w .endpoint) i .endpoint))) (taken-still (w .endpoint) i) (λ _. refl)
   where
     by : (a : TakeAnswer) (after : World) → isControlOut w (stepped (takeEvent a) after) ≡ false
@@ -672,7 +641,7 @@ effect (read i) w v = keeps refl refl refl (λ _. refl)
 effect (complete i t body) w v = keeps refl refl (completed-still w i t body) (λ _. refl)
 effect (poll buffer) w v = poll-effect w buffer v (unfold step in (poll-does w buffer v))
 effect (timeout i) w v = keeps refl refl (timed-out-still (w .endpoint) i) (λ _. refl)
-effect reset w v = unfold wasReset in (let gone : wasReset (w .endpoint) .endpoint .«reply_waits» ≡ false = refl in let same : wasReset (w .endpoint) .endpoint .eid ≡ w .endpoint .eid = refl in resets refl gone same)
+effect reset w v = unfold wasReset in (let gone : wasReset (w .endpoint) .endpoint .«reply_waits» ≡ false = refl in resets refl gone)
 
 pub reply-stays : ReplyStays
 reply-stays c w v = by (effect c w v)
@@ -680,19 +649,9 @@ reply-stays c w v = by (effect c w v)
     by : {c : Call} {s : Stepped} → Effect w c s → ReplyAfter w c s
     by (keeps old out k _) = stays old out (same-part k)
     by (passes out k _ _) = stays refl out k
-    by (sends-it waits out e gone _) = goes waits out e gone
-    by (renews out e _) = newer out e
-    by (resets out gone _) = was-reset out gone
-
-pub step-eid : (c : Call) (w : World) → Sound w → step c w .world .endpoint .eid ≡ w .endpoint .eid
-step-eid c w v = by (effect c w v)
-  where
-    by : {c : Call} {s : Stepped} → Effect w c s → s .world .endpoint .eid ≡ w .endpoint .eid
-    by (keeps _ _ k _) = ap (λ (x : Part). x .eid) k
-    by (passes _ k _ _) = k .same-eid
-    by (sends-it _ _ _ _ same) = same
-    by (renews _ _ same) = same
-    by (resets _ _ same) = same
+    by (sends-it waits out e gone) = goes waits out e gone
+    by (renews out e) = newer out e
+    by (resets out gone) = was-reset out gone
 
 -- ---- along a list
 
@@ -754,10 +713,10 @@ module _ (e : Endpoint) (first : e .«reply_waits» ≡ true) where
         most = omega (arith, none-yet n (k .most) none, one-most (leb 68 (length buffer)));
         turned = λ _. now;
       }))
-  goes-on {s = s} n w rest k v (sends-it {buffer} waits out e gone _) more =
+  goes-on {s = s} n w rest k v (sends-it {buffer} waits out e gone) more =
       rw out (omega (arith, k .most, one-most (leb 68 (length buffer))), e ∙ ap handed-out (same-packet (k .same)))
-  goes-on n w rest k v (renews out e _) more = rw e tt
-  goes-on n w rest k v (resets out gone _) more = tt
+  goes-on n w rest k v (renews out e) more = rw e tt
+  goes-on n w rest k v (resets out gone) more = tt
 
   goes-within : (ys : List Call) (n : ℕ) (w : World) → Waiting n w → Goes (replyFate n ys w)
   unfolding replyFate

@@ -1,26 +1,20 @@
 -- Facts about the two slots of a state: which phases are early, what a change of one slot leaves of the other.
 -- Assumes nothing.
-use Prim.Native.Nat.{ℕ, zero, suc, _+_, _*_, _≤_, _<_}
-use mathlib.Core.Path.{_≡_, refl, sym, _∙_}
-use mathlib.Core.Bool.{Bool, true, false, not, _&&_, _||_}
-use mathlib.Core.List.{List, _∷_}
+use Prim.Native.Nat.{ℕ, zero, suc, _≤_}
+use mathlib.Core.Path.{_≡_, refl, sym}
+use mathlib.Core.Bool.{Bool, true, false, not}
+use mathlib.Core.List.{List}
 use native.Mathlib.Omega.{arith}
 use lib.Dec.{eqb}
 use lib.ListN.{getD}
 use borrow.Author.Tests.{eqb-true, eq-eqb}
 use Rattle.lent.specs.Choice.{if_then_else_}
-use Rattle.lent.proofs.Choice.{if-ind, if-second, and-both}
+use Rattle.lent.proofs.Choice.{if-ind, if-second, and-both, differ}
 use Rattle.machine.specs.State.{fresh, ticket, idled, slotAt, isIdle}
 use Rattle.machine.specs.Receive.{isFrom, gathers, holder, holderIn, endAssembly, endedSlot}
 use Rattle.machine.specs.Poll.{otherSlot}
 use Rattle.machine.specs.Valid.{phased, apart, PhaseFacts, ValidSlot, ValidSlots, two, Valid}
-use Rattle.machine.specs.declared.Assembly.{Assembly}
-use Rattle.machine.specs.declared.Phase.{Phase}
-use Rattle.machine.specs.declared.Phase.the-variants.{Idle, Receive, Process, Answered, Transmit}
-use Rattle.machine.specs.declared.Slot.{Slot}
-use Rattle.machine.specs.declared.Endpoint.{Endpoint}
-use Rattle.machine.specs.declared.Holder.{Holder}
-use Rattle.machine.specs.declared.Holder.the-variants.{Nowhere, At}
+use Rattle.machine.specs.Types.{Assembly, Phase, Idle, Receive, Process, Answered, Transmit, Slot, Endpoint, Holder, Nowhere, At}
 
 -- Idle or Receive: no command of this slot is in Process or Transmit
 abbrev pub isEarly : Phase → Bool
@@ -132,10 +126,7 @@ holder-at e source tag {i} {a} h = outer (holder-in source tag 0 (slotAt e 0 .ph
   where
     inner : Where source tag 1 (slotAt e 1 .phase) Nowhere i a → Holds e source tag i a
     inner (here k p f) = rw (sym k) (record { slot-is = omega arith; gathers-it = p; from-it = f })
-    inner (there n) = absurd (omega (arith, none n))
-      where
-        none : Nowhere ≡ At i a → _≡_ {A = ℕ} 0 1
-        none n = cc
+    inner (there n) = differ (cc n)
 
     outer : Where source tag 0 (slotAt e 0 .phase) (holderIn source tag 1 (slotAt e 1 .phase) Nowhere) i a → Holds e source tag i a
     outer (here k p f) = rw (sym k) (record { slot-is = omega arith; gathers-it = p; from-it = f })
@@ -144,10 +135,7 @@ holder-at e source tag {i} {a} h = outer (holder-in source tag 0 (slotAt e 0 .ph
 -- where `holderIn` found none
 none-in : (source tag k : ℕ) (p : Phase) (other : Holder) → holderIn source tag k p other ≡ Nowhere → (gathers source tag p ≡ false) × (other ≡ Nowhere)
 none-in source tag k Idle other e = (refl, e)
-none-in source tag k (Receive a) other e = if-second (isFrom source tag a) (λ n. absurd (omega (arith, found n))) e
-  where
-    found : At k a ≡ Nowhere → _≡_ {A = ℕ} 0 1
-    found n = cc
+none-in source tag k (Receive a) other e = if-second (isFrom source tag a) (λ n. differ (cc n)) e
 none-in source tag k (Process r) other e = (refl, e)
 none-in source tag k (Answered r) other e = (refl, e)
 none-in source tag k (Transmit r) other e = (refl, e)

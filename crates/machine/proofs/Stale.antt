@@ -48,7 +48,7 @@ assoc (c ∷ us) vs ws = ap (λ (l : List Call). c ∷ l) (assoc us vs ws)
 module _ (first : History) (g₀ : Good first) (i : ℕ) (is : i ≤ 1) where
   -- the response is not fixed, or it was fixed by a call of the list
   data Origin (xs : List Call) : Type 0 where
-    unfixed : run xs first .log i .response ≡ [] → Origin xs
+    unfixed : run xs first .trace i .response ≡ [] → Origin xs
     fixed : FixedBy first i xs → Origin xs
 
   origin-next : (xs : List Call) (c : Call) → Origin xs → Origin (xs ++ (c ∷ []))
@@ -64,21 +64,21 @@ module _ (first : History) (g₀ : Good first) (i : ℕ) (is : i ≤ 1) where
       g₁ = good-next c (run xs first) g
 
       -- a ticket that was present is so still, where no command came in
-      present : {n : ℕ} → next c (run xs first) .log i .entries ≡ run xs first .log i .entries → n ≡ presentTicket (run xs first) i → n ≡ presentTicket (run (xs ++ (c ∷ [])) first) i
+      present : {n : ℕ} → next c (run xs first) .trace i .entries ≡ run xs first .trace i .entries → n ≡ presentTicket (run xs first) i → n ≡ presentTicket (run (xs ++ (c ∷ [])) first) i
       present b k =
           k ∙ g .fits i is .ticket-is ∙ ap (λ (n : ℕ). n % 2 ^ 32) (sym b) ∙ sym (g₁ .fits i is .ticket-is)
           ∙ ap (λ (k : History). presentTicket k i) (sym after)
 
-      entries : {n : ℕ} → next c (run xs first) .log i .entries ≡ n → run (xs ++ (c ∷ [])) first .log i .entries ≡ n
-      entries e = ap (λ (k : History). k .log i .entries) after ∙ e
+      entries : {n : ℕ} → next c (run xs first) .trace i .entries ≡ n → run (xs ++ (c ∷ [])) first .trace i .entries ≡ n
+      entries e = ap (λ (k : History). k .trace i .entries) after ∙ e
 
-      response : {m : List ℕ} → next c (run xs first) .log i .response ≡ m → run (xs ++ (c ∷ [])) first .log i .response ≡ m
-      response e = ap (λ (k : History). k .log i .response) after ∙ e
+      response : {m : List ℕ} → next c (run xs first) .trace i .response ≡ m → run (xs ++ (c ∷ [])) first .trace i .response ≡ m
+      response e = ap (λ (k : History). k .trace i .response) after ∙ e
 
       longer : (us : List Call) (x : Call) (vs : List Call) → xs ≡ us ++ (x ∷ vs) → xs ++ (c ∷ []) ≡ us ++ (x ∷ (vs ++ (c ∷ [])))
       longer us x vs s = ap (λ (l : List Call). l ++ (c ∷ [])) s ∙ assoc us (x ∷ vs) (c ∷ [])
 
-      by : Turned i c (run xs first) (step c (run xs first .world) .event) (run xs first .log i) (next c (run xs first) .log i) → Origin xs → Origin (xs ++ (c ∷ []))
+      by : Turned i c (run xs first) (step c (run xs first .world) .event) (run xs first .trace i) (next c (run xs first) .trace i) → Origin xs → Origin (xs ++ (c ∷ []))
       by (kept a b) (unfixed e) = unfixed (response (a ∙ e))
       by (kept a b) (fixed (at-entry us p vs s v k n r)) = fixed (at-entry us p (vs ++ (c ∷ [])) (longer us (receive p) vs s) v k (entries (b ∙ n)) (response (a ∙ r)))
       by (kept a b) (fixed (by-completion us t body vs s v past now n r)) =
@@ -104,11 +104,11 @@ module _ (first : History) (g₀ : Good first) (i : ℕ) (is : i ≤ 1) where
       go : (l : List Call) → l ≡ us ++ (c ∷ vs) → Origin l → Origin (us ++ (c ∷ vs))
       go l e f = rw (sym e) f
 
-  origin-fixed : (xs : List Call) → Origin xs → (run xs first .log i .response ≡ [] → ⊥) → FixedBy first i xs
+  origin-fixed : (xs : List Call) → Origin xs → (run xs first .trace i .response ≡ [] → ⊥) → FixedBy first i xs
   origin-fixed xs (unfixed e) n = absurd (n e)
   origin-fixed xs (fixed f) n = f
 
-none-yet : (eid : ℕ) (store0 store1 : List ℕ) (i : ℕ) → run [] (start eid store0 store1) .log i .response ≡ []
+none-yet : (eid : ℕ) (store0 store1 : List ℕ) (i : ℕ) → run [] (start eid store0 store1) .trace i .response ≡ []
 unfolding run start
 none-yet eid store0 store1 i = refl
 

@@ -1,35 +1,26 @@
 -- Demand 2's ticket rule on lists of calls: a completion that is accepted answers the command that its ticket was taken for, and every packet
 -- that leaves is of the response fixed for its slot's last entry into Process.
 -- Assumes nothing.
-use Prim.Native.Nat.{ℕ, zero, suc, _+_, _-_, _*_, _/_, _%_, _^_, _≤_, _<_}
+use Prim.Native.Nat.{ℕ, zero, suc, _+_, _%_, _^_, _≤_, _<_}
 use mathlib.Core.Path.{_≡_, refl, sym, ap, _∙_}
-use mathlib.Core.Bool.{Bool, true, false, not, _&&_, _||_}
-use mathlib.Core.List.{List, [], _∷_, _++_}
+use mathlib.Core.Bool.{Bool, true, false, not, _&&_}
+use mathlib.Core.List.{List, [], _∷_}
 use native.Mathlib.Omega.{arith}
 use lib.Dec.{eqb, leb}
-use lib.ListN.{length, take}
+use lib.ListN.{length}
 use lib.Seq.{take-all}
 use borrow.Author.Tests.{eq-eqb, eqb-true, not-true}
 use Rattle.lent.specs.Choice.{if_then_else_}
-use Rattle.lent.proofs.Choice.{if-ind, false-true, and-both}
+use Rattle.lent.proofs.Choice.{if-ind, false-true, and-both, differ}
 use Rattle.mctp.specs.Cut.{packet}
 use Rattle.machine.specs.State.{World, outcome, slotAt, storeAt, withSlot}
 use Rattle.machine.specs.Finish.{isSlot, takenRequest, takenRow, takenFrom, taken, part, isPresent, completedRow, completedIn, completed}
 use Rattle.machine.specs.Poll.{afterPacket, controlPacket, commandPacket}
 use Rattle.machine.specs.Valid.{PhaseFacts, Sound}
 use Rattle.machine.specs.Calls.{Call, take!, read, complete, poll, Event, number, given, part-read, handed-out, Stepped, takeEvent, step}
-use Rattle.machine.specs.History.{Log, History, phaseAt, pausedAt, isTransmit, isPacketOf, moved, responseFor, commanded, transmitted, logAfter, counts, next, run, start}
+use Rattle.machine.specs.History.{Trace, History, phaseAt, pausedAt, isTransmit, isPacketOf, moved, responseFor, commanded, transmitted, traceAfter, counts, next, run, start}
 use Rattle.machine.specs.Demands.{TicketCount, isProcess, TicketRule, AnswersOwn, routeOf, replyPacket, AnswerBelongs, PausesHold, isAnswered, isIdleNow, FlagsFit}
-use Rattle.machine.specs.declared.Ticket.{Ticket}
-use Rattle.machine.specs.declared.Taking.{Taking}
-use Rattle.machine.specs.declared.Taking.the-variants.{Untaken, Taken}
-use Rattle.machine.specs.declared.Request.{Request}
-use Rattle.machine.specs.declared.Response.{Response}
-use Rattle.machine.specs.declared.Phase.{Phase}
-use Rattle.machine.specs.declared.Phase.the-variants.{Idle, Receive, Process, Answered, Transmit}
-use Rattle.machine.specs.declared.Slot.{Slot}
-use Rattle.machine.specs.declared.Endpoint.{Endpoint}
-use Rattle.machine.specs.declared.TakeDone.{TakeDone}
+use Rattle.machine.specs.Types.{Ticket, Taking, Untaken, Taken, Request, Outgoing, Phase, Idle, Receive, Process, Answered, Transmit, Slot, Endpoint, TakeDone}
 use Rattle.machine.proofs.Slots.{facts-at}
 use Rattle.machine.proofs.Receiving.{right-stores}
 use Rattle.machine.proofs.Keeps.{slot-most, Chosen, chosen-at}
@@ -45,14 +36,14 @@ ticket-count eid store0 store1 a b xs i is = good-every eid store0 store1 a b xs
 
 module _ (i : ℕ) (is : i ≤ 1) (first : ℕ) (request : List ℕ) where
   pub record Since (h : History) : Type 0 where
-    pub grown : first ≤ h .log i .entries
-    pub kept : h .log i .entries ≡ first → isProcess (phaseAt (h .world) i) ≡ true → h .log i .request ≡ request
+    pub grown : first ≤ h .trace i .entries
+    pub kept : h .trace i .entries ≡ first → isProcess (phaseAt (h .world) i) ≡ true → h .trace i .request ≡ request
 
   since-next : (c : Call) (h : History) → Good h → Since h → Since (next c h)
   unfolding next
   since-next c h g s = by (kept-by c h g i is .entry)
     where
-      by : Entry (phaseAt (h .world) i) (phaseAt (step c (h .world) .world) i) (h .log i) (logAfter i c (h .world) (step c (h .world)) (h .log i))
+      by : Entry (phaseAt (h .world) i) (phaseAt (step c (h .world) .world) i) (h .trace i) (traceAfter i c (h .world) (step c (h .world)) (h .trace i))
           → Since (unfold next in next c h)
       by (entered _ _ e) = unfold next in (record { grown = omega (arith, e, s .grown); kept = λ k _. absurd (omega (arith, e, k, s .grown)) })
       by (stayed e f) =
@@ -78,10 +69,7 @@ pub record Gave (w : World) (i : ℕ) (t : Ticket) : Type 0 where
   pub then-phase : phaseAt (step (take! i) w .world) i ≡ Process (takenRequest request)
 
 number-given : {A : Type 0} {n : ℕ} {t : Ticket} → number n ≡ given t → A
-number-given {n = n} {t = t} e = absurd (omega (arith, zero-one e))
-  where
-    zero-one : number n ≡ given t → _≡_ {A = ℕ} 0 1
-    zero-one q = cc
+number-given e = differ (cc e)
 
 same-ticket : {t u : Ticket} → given u ≡ given t → t ≡ u
 same-ticket e = cc
@@ -134,26 +122,26 @@ gave w s i t e =
     }
 
 -- taking adds no entry, and changes no request
-pub record TakeKeeps (l m : Log) : Type 0 where
+pub record TakeKeeps (l m : Trace) : Type 0 where
   pub entries-are : m .entries ≡ l .entries
   pub request-is : m .request ≡ l .request
 
-take-keeps : (h : History) (i : ℕ) → TakeKeeps (h .log i) (next (take! i) h .log i)
+take-keeps : (h : History) (i : ℕ) → TakeKeeps (h .trace i) (next (take! i) h .trace i)
 unfolding next
 take-keeps h i = sent (phaseAt (h .world) i) (phaseAt (step (take! i) (h .world) .world) i) (step (take! i) (h .world) .event) _ (by (step (take! i) (h .world) .event))
   where
-    by : (v : Event) → TakeKeeps (h .log i) (commanded i (take! i) (h .world) v (h .log i))
+    by : (v : Event) → TakeKeeps (h .trace i) (commanded i (take! i) (h .world) v (h .trace i))
     by (number n) = record { entries-are = refl; request-is = refl }
-    by (given t) = if-ind (TakeKeeps (h .log i)) (eqb i i) (λ _. record { entries-are = refl; request-is = refl }) (λ _. record { entries-are = refl; request-is = refl })
+    by (given t) = if-ind (TakeKeeps (h .trace i)) (eqb i i) (λ _. record { entries-are = refl; request-is = refl }) (λ _. record { entries-are = refl; request-is = refl })
     by (part-read s) = record { entries-are = refl; request-is = refl }
     by (handed-out s) = record { entries-are = refl; request-is = refl }
 
-    sent : (p q : Phase) (v : Event) (m : Log) → TakeKeeps (h .log i) m → TakeKeeps (h .log i) (transmitted p q v m)
+    sent : (p q : Phase) (v : Event) (m : Trace) → TakeKeeps (h .trace i) m → TakeKeeps (h .trace i) (transmitted p q v m)
     sent p q v m k =
-        if-ind (TakeKeeps (h .log i)) (not (isTransmit p) && isTransmit q) (λ _. record { entries-are = k .entries-are; request-is = k .request-is })
-        (λ _. if-ind (TakeKeeps (h .log i)) (isPacketOf p q v) (λ _. record { entries-are = k .entries-are; request-is = k .request-is }) (λ _. k))
+        if-ind (TakeKeeps (h .trace i)) (not (isTransmit p) && isTransmit q) (λ _. record { entries-are = k .entries-are; request-is = k .request-is })
+        (λ _. if-ind (TakeKeeps (h .trace i)) (isPacketOf p q v) (λ _. record { entries-are = k .entries-are; request-is = k .request-is }) (λ _. k))
 
-take-entries : (h : History) (i : ℕ) → next (take! i) h .log i .entries ≡ h .log i .entries
+take-entries : (h : History) (i : ℕ) → next (take! i) h .trace i .entries ≡ h .trace i .entries
 take-entries h i = take-keeps h i .entries-are
 
 -- ---- completing with an older ticket
@@ -194,9 +182,9 @@ ticket-rule eid store0 store1 a b xs i t e ys body lo hi =
     let k = gave (h .world) (g .sound) i t e in
     let is = k .slot-is in
     let g₂ = good-run ys (next (take! i) h) (good-next (take! i) h g) in
-    let mine : t .0 ≡ h .log i .entries % 2 ^ 32 = ap (λ (x : Ticket). x .0) (k .ticket-is) ∙ g .fits i is .ticket-is in
+    let mine : t .0 ≡ h .trace i .entries % 2 ^ 32 = ap (λ (x : Ticket). x .0) (k .ticket-is) ∙ g .fits i is .ticket-is in
     other-refused (run ys (next (take! i) h) .world) (g₂ .sound) i is t body
-    (λ q. older (h .log i .entries) (run ys (next (take! i) h) .log i .entries) lo hi (sym mine ∙ q ∙ g₂ .fits i is .ticket-is))
+    (λ q. older (h .trace i .entries) (run ys (next (take! i) h) .trace i .entries) lo hi (sym mine ∙ q ∙ g₂ .fits i is .ticket-is))
 
 -- ---- a completion that is accepted
 
@@ -223,25 +211,25 @@ accepted w s i is t body e = into (phaseAt w i) (rw (right-stores w s, slot-yes 
     into (Answered r) q = refused 30 q
     into (Transmit r) q = refused 30 q
 
-pub transmitted-response : (p q : Phase) (v : Event) (l : Log) → transmitted p q v l .response ≡ l .response
+pub transmitted-response : (p q : Phase) (v : Event) (l : Trace) → transmitted p q v l .response ≡ l .response
 transmitted-response p q v l =
-    if-ind (λ (m : Log). m .response ≡ l .response) (not (isTransmit p) && isTransmit q) (λ _. refl)
-    (λ _. if-ind (λ (m : Log). m .response ≡ l .response) (isPacketOf p q v) (λ _. refl) (λ _. refl))
+    if-ind (λ (m : Trace). m .response ≡ l .response) (not (isTransmit p) && isTransmit q) (λ _. refl)
+    (λ _. if-ind (λ (m : Trace). m .response ≡ l .response) (isPacketOf p q v) (λ _. refl) (λ _. refl))
 
 -- the response that it fixes
 pub completes : (h : History) (i : ℕ) (t : Ticket) (body : List ℕ) → step (complete i t body) (h .world) .event ≡ number 0
-    → next (complete i t body) h .log i .response ≡ responseFor i (h .log i .request) body
+    → next (complete i t body) h .trace i .response ≡ responseFor i (h .trace i .request) body
 unfolding next
 completes h i t body e =
     transmitted-response (phaseAt (h .world) i) (phaseAt (step (complete i t body) (h .world) .world) i) (step (complete i t body) (h .world) .event)
-    (commanded i (complete i t body) (h .world) (step (complete i t body) (h .world) .event) (h .log i))
+    (commanded i (complete i t body) (h .world) (step (complete i t body) (h .world) .event) (h .trace i))
     ∙ go (step (complete i t body) (h .world) .event) e
   where
-    go : (v : Event) → v ≡ number 0 → commanded i (complete i t body) (h .world) v (h .log i) .response ≡ responseFor i (h .log i .request) body
+    go : (v : Event) → v ≡ number 0 → commanded i (complete i t body) (h .world) v (h .trace i) .response ≡ responseFor i (h .trace i .request) body
     go v k = rw (k, eq-eqb i i refl) refl
 
 -- the reading call hands back the request
-reads : (w : World) → Sound w → (i : ℕ) → i ≤ 1 → (r : Request) (l : Log) → phaseAt w i ≡ Process (takenRequest r) → Fit (slotAt (w .endpoint) i) (storeAt w i) l
+reads : (w : World) → Sound w → (i : ℕ) → i ≤ 1 → (r : Request) (l : Trace) → phaseAt w i ≡ Process (takenRequest r) → Fit (slotAt (w .endpoint) i) (storeAt w i) l
     → step (read i) w .event ≡ part-read (l .request)
 unfolding step part
 reads w s i is r l p f =
@@ -259,26 +247,23 @@ answers-own eid store0 store1 a b xs i t e ys body hi done =
     let k = gave (h .world) (g .sound) i t e in
     let is = k .slot-is in
     let c = accepted (h₂ .world) (g₂ .sound) i is t body done in
-    let n : h₁ .log i .entries ≡ h .log i .entries = take-entries h i in
-    let since = since-run i is (h .log i .entries) (h₁ .log i .request) ys h₁ g₁ (record { grown = omega (arith, n); kept = λ _ _. refl }) in
-    let mine : t .0 ≡ h .log i .entries % 2 ^ 32 = ap (λ (x : Ticket). x .0) (k .ticket-is) ∙ g .fits i is .ticket-is in
-    let same-count : h₂ .log i .entries ≡ h .log i .entries =
-    not-older (h .log i .entries) (h₂ .log i .entries) (since .grown) hi (sym mine ∙ c .1 ∙ g₂ .fits i is .ticket-is) in
-    let request-is : h₂ .log i .request ≡ h₁ .log i .request = since .kept same-count (c .0) in
+    let n : h₁ .trace i .entries ≡ h .trace i .entries = take-entries h i in
+    let since = since-run i is (h .trace i .entries) (h₁ .trace i .request) ys h₁ g₁ (record { grown = omega (arith, n); kept = λ _ _. refl }) in
+    let mine : t .0 ≡ h .trace i .entries % 2 ^ 32 = ap (λ (x : Ticket). x .0) (k .ticket-is) ∙ g .fits i is .ticket-is in
+    let same-count : h₂ .trace i .entries ≡ h .trace i .entries =
+    not-older (h .trace i .entries) (h₂ .trace i .entries) (since .grown) hi (sym mine ∙ c .1 ∙ g₂ .fits i is .ticket-is) in
+    let request-is : h₂ .trace i .request ≡ h₁ .trace i .request = since .kept same-count (c .0) in
     record {
       no-entry = same-count;
       same-request = request-is;
-      read-request = reads (h₁ .world) (g₁ .sound) i is (k .request) (h₁ .log i) (unfold next in (k .then-phase)) (g₁ .fits i is);
+      read-request = reads (h₁ .world) (g₁ .sound) i is (k .request) (h₁ .trace i) (unfold next in (k .then-phase)) (g₁ .fits i is);
       fixes = completes h₂ i t body done ∙ ap (λ (x : List ℕ). responseFor i x body) request-is;
     }
 
 -- ---- every packet that leaves
 
 number-out : {A : Type 0} {n : ℕ} {s : List ℕ} → number n ≡ handed-out s → A
-number-out {n = n} {s = s} e = absurd (omega (arith, zero-one e))
-  where
-    zero-one : number n ≡ handed-out s → _≡_ {A = ℕ} 0 1
-    zero-one q = cc
+number-out e = differ (cc e)
 
 same-bytes : {s u : List ℕ} → handed-out u ≡ handed-out s → s ≡ u
 same-bytes e = cc
@@ -289,9 +274,9 @@ unfolding packet
 reply-packet e n = rw (n, take-all 64 (e .reply) (omega arith)) refl
 
 -- a slot that sends a packet has a response
-pub moved-full : (h : History) → Good h → (i : ℕ) → i ≤ 1 → (q : Phase) → moved (phaseAt (h .world) i) q ≡ true → h .log i .response ≡ [] → ⊥
+pub moved-full : (h : History) → Good h → (i : ℕ) → i ≤ 1 → (q : Phase) → moved (phaseAt (h .world) i) q ≡ true → h .trace i .response ≡ [] → ⊥
 moved-full h g i is q m =
-    some-response (slotAt (h .world .endpoint) i) (storeAt (h .world) i) (h .log i) (g .fits i is) (facts-at i is (g .sound .state)) (by (phaseAt (h .world) i) m)
+    some-response (slotAt (h .world .endpoint) i) (storeAt (h .world) i) (h .trace i) (g .fits i is) (facts-at i is (g .sound .state)) (by (phaseAt (h .world) i) m)
   where
     by : (p : Phase) → moved p q ≡ true → There p
     by Idle n = false-true n
@@ -303,16 +288,16 @@ moved-full h g i is q m =
 -- what a poll hands out, from the world before and what it leaves
 pub record BelongsBy (h : History) (s : Stepped) (bytes : List ℕ) : Type 0 where
   pub of-slot : (i : ℕ) → i ≤ 1 → moved (phaseAt (h .world) i) (phaseAt (s .world) i) ≡ true
-      → bytes ≡ packet 64 (routeOf h i) (h .log i .response) (h .log i .packets)
+      → bytes ≡ packet 64 (routeOf h i) (h .trace i .response) (h .trace i .packets)
   pub of-none : ((i : ℕ) → i ≤ 1 → moved (phaseAt (h .world) i) (phaseAt (s .world) i) ≡ false)
       → (h .world .endpoint .«reply_waits» ≡ true) × (bytes ≡ replyPacket (h .world .endpoint))
 
 module _ (h : History) (g : Good h) (buffer : List ℕ) where
   -- the packet of the slot that is chosen
-  next-packet : (i : ℕ) → i ≤ 1 → (r : Response) → phaseAt (h .world) i ≡ Transmit r
-      → commandPacket (h .world) i r ≡ packet 64 (routeOf h i) (h .log i .response) (h .log i .packets)
+  next-packet : (i : ℕ) → i ≤ 1 → (r : Outgoing) → phaseAt (h .world) i ≡ Transmit r
+      → commandPacket (h .world) i r ≡ packet 64 (routeOf h i) (h .trace i .response) (h .trace i .packets)
   next-packet i is r p =
-      let k : Going r (storeAt (h .world) i) (h .log i) = rw p at (g .fits i is .phase-fits) in
+      let k : Going r (storeAt (h .world) i) (h .trace i) = rw p at (g .fits i is .phase-fits) in
       rw (k .full .held, k .full .to, k .full .under, k .count) refl
 
   belongs-by : {s : Stepped} (bytes : List ℕ) → PollCase (h .world) buffer s → s .event ≡ handed-out bytes → BelongsBy h s bytes
@@ -344,7 +329,7 @@ module _ (h : History) (g : Good h) (buffer : List ℕ) where
           go p x a b = rw (a, b) (onward-moves (onward (slotAt (h .world .endpoint) k) q))
 
       at : (i : ℕ) → i ≤ 1 → Which k i → moved (phaseAt (h .world) i) (slotAt (withSlot (h .world .endpoint) k (afterPacket (slotAt (h .world .endpoint) k) q)) i .phase) ≡ true
-          → bytes ≡ packet 64 (routeOf h i) (h .log i .response) (h .log i .packets)
+          → bytes ≡ packet 64 (routeOf h i) (h .trace i .response) (h .trace i .packets)
       at i is (this p) m = same-bytes e ∙ rw p (next-packet k ks q (picked .sends))
       at i is (that p) m =
           let still-there : slotAt (withSlot (h .world .endpoint) k (afterPacket (slotAt (h .world .endpoint) k) q)) i .phase ≡ phaseAt (h .world) i =

@@ -1,4 +1,5 @@
--- Every answer number of document 01 that is not about packets alone; `mctp` names 10 to 14 (Header), 16 and 21 to 23 (Gather).
+-- Every answer number of document 01 that is not about bytes alone; `mctp` names 10 to 14 (Header), 16 and 21 to 23 (Gather), and `opening` 15 and 17
+-- to 19.
 -- Assumes nothing.
 use Prim.Native.Nat.{ℕ}
 
@@ -13,20 +14,6 @@ command-complete = 1
 -- also with an error reply
 abbrev pub control-done : ℕ
 control-done = 2
-
--- the first byte is not 84h, or ROR is 1
-abbrev pub not-a-request : ℕ
-not-a-request = 15
-
-abbrev pub message-too-short : ℕ
-message-too-short = 17
-
--- a control primitive is one packet of 12 bytes
-abbrev pub not-twelve : ℕ
-not-twelve = 18
-
-abbrev pub check-wrong : ℕ
-check-wrong = 19
 
 abbrev pub slot-not-idle : ℕ
 slot-not-idle = 20

@@ -2,17 +2,14 @@
 -- Any slot number, ticket, bytes and buffer may be given, so refused calls are calls too.
 -- Assumes nothing.
 use Prim.Native.Nat.{ℕ}
+use mathlib.Core.Bool.{Bool, true, false}
 use mathlib.Core.List.{List, [], _∷_}
 use lib.ListN.{take}
 use Rattle.machine.specs.State.{World, Outcome, ticket, world, withEndpoint}
 use Rattle.machine.specs.Receive.{received}
 use Rattle.machine.specs.Finish.{taken, takeSays, part, completed, timedOut, wasReset, wasSetUp}
 use Rattle.machine.specs.Poll.{Polled, pollSays, polled}
-use Rattle.machine.specs.declared.Ticket.{Ticket}
-use Rattle.machine.specs.declared.Done.{Done}
-use Rattle.machine.specs.declared.TakeAnswer.{TakeAnswer}
-use Rattle.machine.specs.declared.TakeDone.{TakeDone}
-use Rattle.machine.specs.declared.PollAnswer.{PollAnswer}
+use Rattle.machine.specs.Types.{Ticket, Done, TakeAnswer, TakeDone, PollAnswer}
 
 pub data Call : Type 0 where
   -- a packet
@@ -26,6 +23,20 @@ pub data Call : Type 0 where
   poll : List ℕ → Call
   timeout : ℕ → Call
   reset : Call
+
+-- CALLS BY KIND. What is said of a call that receives a packet, of one that polls with a buffer, of a reset, and of every other.
+abbrev pub ofCall : {A : Type 0} → (List ℕ → A) → (List ℕ → A) → A → A → Call → A
+ofCall received polled wasReset other (receive p) = received p
+ofCall received polled wasReset other (take! i) = other
+ofCall received polled wasReset other (read i) = other
+ofCall received polled wasReset other (complete i t body) = other
+ofCall received polled wasReset other (poll buffer) = polled buffer
+ofCall received polled wasReset other (timeout i) = other
+ofCall received polled wasReset other reset = wasReset
+
+-- a plain call sends nothing and keeps the turn: every one but a poll and a reset
+abbrev pub isPlain : Call → Bool
+isPlain = ofCall (λ p. true) (λ buffer. false) false true
 
 -- what a call answers
 pub data Event : Type 0 where

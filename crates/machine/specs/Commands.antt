@@ -12,12 +12,9 @@ use Rattle.lent.specs.Bytes.{byteAt}
 use Rattle.crc32c.specs.Crc32c.{crc32c}
 use Rattle.machine.specs.State.{World, slotAt, storeAt}
 use Rattle.machine.specs.Calls.{Call, receive, take!, read, complete, number, given, part-read, step}
-use Rattle.machine.specs.History.{Log, History, phaseAt, isFor, requestWith, sourceOf, messageTagOf, kindOf, fixedAtEntry, cuts}
+use Rattle.machine.specs.History.{Trace, History, phaseAt, isFor, requestWith, sourceOf, messageTagOf, kindOf, fixedAtEntry, cuts}
 use Rattle.machine.specs.Demands.{Every, isProcess}
-use Rattle.machine.specs.declared.Ticket.{Ticket}
-use Rattle.machine.specs.declared.Taking.the-variants.{Untaken}
-use Rattle.machine.specs.declared.Request.{Request}
-use Rattle.machine.specs.declared.Phase.the-variants.{Process}
+use Rattle.machine.specs.Types.{Ticket, Untaken, Request, Process}
 
 -- "The last four bytes are CRC-32C of everything before them, low byte first": of a message of at least eight bytes
 pub record RightCheck (m : List ℕ) : Type 0 where
@@ -28,20 +25,20 @@ pub record RightCheck (m : List ℕ) : Type 0 where
 
 -- answer 1: the packet is for one of the slots, whose payloads, joined with this one, are a message with a right check. Where no test at the
 -- entry failed, the slot is then in Process, untaken, with the message at its store's front, its length, sender, tag and NMIMT.
-pub record Accepted (w : World) (log : ℕ → Log) (p : List ℕ) (after : World) : Type 0 where
+pub record Accepted (w : World) (trace : ℕ → Trace) (p : List ℕ) (after : World) : Type 0 where
   pub slot : ℕ
   pub slot-is : slot ≤ 1
   pub for-it : isFor slot p w ≡ true
-  pub right : RightCheck (requestWith p (log slot))
-  pub waits : fixedAtEntry slot (requestWith p (log slot)) ≡ []
+  pub right : RightCheck (requestWith p (trace slot))
+  pub waits : fixedAtEntry slot (requestWith p (trace slot)) ≡ []
       → (phaseAt after slot
       ≡ Process
-      (record { source = sourceOf p; tag = messageTagOf p; kind = kindOf (requestWith p (log slot)); length = length (requestWith p (log slot)); taking = Untaken }))
-      × (take (length (requestWith p (log slot))) (storeAt after slot) ≡ requestWith p (log slot))
+      (record { source = sourceOf p; tag = messageTagOf p; kind = kindOf (requestWith p (trace slot)); length = length (requestWith p (trace slot)); taking = Untaken }))
+      × (take (length (requestWith p (trace slot))) (storeAt after slot) ≡ requestWith p (trace slot))
 
 abbrev pub AcceptedRight : Type 0
 AcceptedRight =
-    Every (λ h. (p : List ℕ) → step (receive p) (h .world) .event ≡ number 1 → Accepted (h .world) (h .log) p (step (receive p) (h .world) .world))
+    Every (λ h. (p : List ℕ) → step (receive p) (h .world) .event ≡ number 1 → Accepted (h .world) (h .trace) p (step (receive p) (h .world) .world))
 
 -- the same command, perhaps taken: its sender, tag, NMIMT and length, its ticket, and the request at the store's front
 pub record SameCommand (h : History) (c : Call) (i : ℕ) (r : Request) : Type 0 where
@@ -65,15 +62,15 @@ CommandStays = Every (λ h. (c : Call) (i : ℕ) → i ≤ 1 → (r : Request) �
 
 pub record TakenOnce (h : History) (i : ℕ) : Type 0 where
   -- a take gives the ticket only if none did since the command came in
-  pub once : (t : Ticket) → step (take! i) (h .world) .event ≡ given t → h .log i .takes ≡ 0
+  pub once : (t : Ticket) → step (take! i) (h .world) .event ≡ given t → h .trace i .takes ≡ 0
   -- a completion that is accepted had its take since then
-  pub first : (t : Ticket) (body : List ℕ) → step (complete i t body) (h .world) .event ≡ number 0 → h .log i .takes ≡ 1
+  pub first : (t : Ticket) (body : List ℕ) → step (complete i t body) (h .world) .event ≡ number 0 → h .trace i .takes ≡ 1
   -- reading gives the request while the command is taken and not completed, and nothing else
-  pub reads : step (read i) (h .world) .event ≡ part-read (if ltb i 2 && (isProcess (phaseAt (h .world) i) && eqb (h .log i .takes) 1) then h .log i .request else [])
+  pub reads : step (read i) (h .world) .event ≡ part-read (if ltb i 2 && (isProcess (phaseAt (h .world) i) && eqb (h .trace i .takes) 1) then h .trace i .request else [])
 
 abbrev pub TakenFirst : Type 0
 TakenFirst = Every (λ h. (i : ℕ) → TakenOnce h i)
 
 -- a response is fixed once for an entry: where a completion is accepted, none was fixed before
 abbrev pub FixedOnce : Type 0
-FixedOnce = Every (λ h. (i : ℕ) (t : Ticket) (body : List ℕ) → step (complete i t body) (h .world) .event ≡ number 0 → h .log i .response ≡ [])
+FixedOnce = Every (λ h. (i : ℕ) (t : Ticket) (body : List ℕ) → step (complete i t body) (h .world) .event ≡ number 0 → h .trace i .response ≡ [])

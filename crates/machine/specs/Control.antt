@@ -2,7 +2,7 @@
 -- Assumes nothing.
 use Prim.Native.Nat.{ℕ}
 use mathlib.Core.Bool.{Bool, true, false}
-use mathlib.Core.List.{List, _∷_}
+use mathlib.Core.List.{List}
 use lib.Bits.{bitOr}
 use lib.Dec.{eqb}
 use Rattle.lent.specs.Choice.{if_then_else_}
@@ -12,15 +12,9 @@ use Rattle.nvme_mi.specs.Response.{response, faultBody, successBody}
 use Rattle.nvme_mi.specs.declared.MessageHeader.{MessageHeader}
 use Rattle.nvme_mi.specs.declared.Fault.{Fault}
 use Rattle.nvme_mi.specs.declared.Fault.the-variants.{NoFault, Parameter, Failure}
-use Rattle.machine.specs.State.{slotAt, withSlot, onBoth, withPaused, withBusy, withFlags, withReply, slot, idled, isIdle}
+use Rattle.machine.specs.State.{outgoing, slotAt, withSlot, onBoth, withPaused, withBusy, withFlags, withReply, slot, idled, isIdle}
 use Rattle.machine.specs.Wire.{opcodeOf, tagOf, clearsFlags}
-use Rattle.machine.specs.declared.Taking.{Taking}
-use Rattle.machine.specs.declared.Taking.the-variants.{Untaken, Taken}
-use Rattle.machine.specs.declared.Phase.{Phase}
-use Rattle.machine.specs.declared.Phase.the-variants.{Idle, Receive, Process, Answered, Transmit}
-use Rattle.machine.specs.declared.Slot.{Slot}
-use Rattle.machine.specs.declared.Endpoint.{Endpoint}
-use Rattle.machine.specs.declared.Acted.{Acted}
+use Rattle.machine.specs.Types.{Taking, Untaken, Taken, Phase, Idle, Receive, Process, Answered, Transmit, Slot, Endpoint, Acted}
 
 -- the value where the test holds, else 0
 abbrev pub bit : Bool → ℕ → ℕ
@@ -43,7 +37,7 @@ abbrev pub released : Phase → Phase
 released Idle = Idle
 released (Receive a) = Receive a
 released (Process r) = Process r
-released (Answered r) = Transmit r
+released (Answered r) = Transmit (outgoing r 0)
 released (Transmit r) = Transmit r
 
 abbrev pub resumedSlot : Slot → Slot

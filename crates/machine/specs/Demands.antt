@@ -15,10 +15,7 @@ use Rattle.machine.specs.State.{slotAt}
 use Rattle.machine.specs.Valid.{phased, Sound}
 use Rattle.machine.specs.Calls.{Call, receive, take!, read, complete, poll, number, given, part-read, handed-out, step}
 use Rattle.machine.specs.History.{History, phaseAt, pausedAt, isTransmit, isFor, requestWith, responseFor, fixedAtEntry, isPacketOf, next, run, start, cuts, packetsLeft, lastPacketOut}
-use Rattle.machine.specs.declared.Ticket.{Ticket}
-use Rattle.machine.specs.declared.Phase.{Phase}
-use Rattle.machine.specs.declared.Phase.the-variants.{Idle}
-use Rattle.machine.specs.declared.Endpoint.{Endpoint}
+use Rattle.machine.specs.Types.{Ticket, Phase, Idle, Endpoint}
 
 -- ---- what happens first to the response that slot i is sending
 
@@ -41,7 +38,7 @@ fate i (c ∷ cs) h =
 -- the promise: this response goes out whole, with at most `most` polls counted
 abbrev pub Within : ℕ → ℕ → List ℕ → Fate → Type 0
 Within most i response cut = Unit {0}
-Within most i response (delivered h) = (h .counted ≤ most) × (h .log i .payloads ≡ response)
+Within most i response (delivered h) = (h .counted ≤ most) × (h .trace i .payloads ≡ response)
 Within most i response (open! h) = h .counted < most
 
 -- the counted polls that are enough for a slot with k packets left
@@ -58,14 +55,14 @@ Demand3 =
     → (1 ≤ packetsLeft i (run xs (start eid store0 store1)))
     × (packetsLeft i (run xs (start eid store0 store1)) ≤ 66)
     × Within (run xs (start eid store0 store1) .counted + pollsFor (packetsLeft i (run xs (start eid store0 store1)))) i
-    (run xs (start eid store0 store1) .log i .response) (fate i ys (run xs (start eid store0 store1)))
+    (run xs (start eid store0 store1) .trace i .response) (fate i ys (run xs (start eid store0 store1)))
 
 -- what people quote: 264 polls at most, whatever is left
 abbrev pub AtMost264 : Type 0
 AtMost264 =
     (eid : ℕ) (store0 store1 : List ℕ) → length store0 ≡ 4224 → length store1 ≡ 4224 → (xs ys : List Call) (i : ℕ) → i ≤ 1
     → isTransmit (phaseAt (run xs (start eid store0 store1) .world) i) ≡ true
-    → Within (run xs (start eid store0 store1) .counted + 264) i (run xs (start eid store0 store1) .log i .response) (fate i ys (run xs (start eid store0 store1)))
+    → Within (run xs (start eid store0 store1) .counted + 264) i (run xs (start eid store0 store1) .trace i .response) (fate i ys (run xs (start eid store0 store1)))
 
 -- A COMPLETION THAT IS ACCEPTED IS NOT LOST. Its response, with that very body, goes out whole with at most 264 more polls counted, also where
 -- it first waits under its slot's pause flag (no poll is counted then), unless the slot is aborted or the endpoint reset.
@@ -73,7 +70,7 @@ abbrev pub AnswerArrives : Type 0
 AnswerArrives =
     (eid : ℕ) (store0 store1 : List ℕ) → length store0 ≡ 4224 → length store1 ≡ 4224 → (xs ys : List Call) (i : ℕ) → i ≤ 1 → (t : Ticket) (body : List ℕ)
     → step (complete i t body) (run xs (start eid store0 store1) .world) .event ≡ number 0
-    → Within (run xs (start eid store0 store1) .counted + 264) i (responseFor i (run xs (start eid store0 store1) .log i .request) body)
+    → Within (run xs (start eid store0 store1) .counted + 264) i (responseFor i (run xs (start eid store0 store1) .trace i .request) body)
     (fate i ys (next (complete i t body) (run xs (start eid store0 store1))))
 
 -- and so does the error response of a command that failed a test at its entry into Process
@@ -81,8 +78,8 @@ abbrev pub ErrorArrives : Type 0
 ErrorArrives =
     (eid : ℕ) (store0 store1 : List ℕ) → length store0 ≡ 4224 → length store1 ≡ 4224 → (xs ys : List Call) (i : ℕ) → i ≤ 1 → (p : List ℕ)
     → step (receive p) (run xs (start eid store0 store1) .world) .event ≡ number 1 → isFor i p (run xs (start eid store0 store1) .world) ≡ true
-    → (fixedAtEntry i (requestWith p (run xs (start eid store0 store1) .log i)) ≡ [] → ⊥)
-    → Within (run xs (start eid store0 store1) .counted + 264) i (fixedAtEntry i (requestWith p (run xs (start eid store0 store1) .log i)))
+    → (fixedAtEntry i (requestWith p (run xs (start eid store0 store1) .trace i)) ≡ [] → ⊥)
+    → Within (run xs (start eid store0 store1) .counted + 264) i (fixedAtEntry i (requestWith p (run xs (start eid store0 store1) .trace i)))
     (fate i ys (next (receive p) (run xs (start eid store0 store1))))
 
 -- ---- DEMAND 2, the ticket rule
@@ -94,7 +91,7 @@ Every P =
 
 -- the slot's ticket is the number of its entries into Process, modulo 2^32; no call sets it back, a reset neither
 abbrev pub TicketCount : Type 0
-TicketCount = Every (λ h. (i : ℕ) → i ≤ 1 → slotAt (h .world .endpoint) i .ticket .0 ≡ h .log i .entries % 2 ^ 32)
+TicketCount = Every (λ h. (i : ℕ) → i ≤ 1 → slotAt (h .world .endpoint) i .ticket .0 ≡ h .trace i .entries % 2 ^ 32)
 
 abbrev pub isProcess : Phase → Bool
 isProcess = phased false (λ a. false) (λ r. true) (λ r. false) (λ r. false)
@@ -104,30 +101,30 @@ isProcess = phased false (λ a. false) (λ r. true) (λ r. false) (λ r. false)
 abbrev pub TicketRule : Type 0
 TicketRule =
     Every (λ h. (i : ℕ) (t : Ticket) → step (take! i) (h .world) .event ≡ given t → (ys : List Call) (body : List ℕ)
-    → h .log i .entries < run ys (next (take! i) h) .log i .entries
-    → run ys (next (take! i) h) .log i .entries < h .log i .entries + 2 ^ 32
+    → h .trace i .entries < run ys (next (take! i) h) .trace i .entries
+    → run ys (next (take! i) h) .trace i .entries < h .trace i .entries + 2 ^ 32
     → step (complete i t body) (run ys (next (take! i) h) .world) .event ≡ number (if isProcess (phaseAt (run ys (next (take! i) h) .world) i) then 32 else 31))
 
 -- what a completion that is accepted answers is the command that the take of its ticket handed over
 pub record Own (h later : History) (i : ℕ) (t : Ticket) (body : List ℕ) : Type 0 where
   -- no command of the slot came in between
-  pub no-entry : later .log i .entries ≡ h .log i .entries
+  pub no-entry : later .trace i .entries ≡ h .trace i .entries
   -- the request is the one that was read after the take
-  pub same-request : later .log i .request ≡ next (take! i) h .log i .request
-  pub read-request : step (read i) (next (take! i) h .world) .event ≡ part-read (next (take! i) h .log i .request)
+  pub same-request : later .trace i .request ≡ next (take! i) h .trace i .request
+  pub read-request : step (read i) (next (take! i) h .world) .event ≡ part-read (next (take! i) h .trace i .request)
   -- and the response that is fixed now is that command's
-  pub fixes : next (complete i t body) later .log i .response ≡ responseFor i (next (take! i) h .log i .request) body
+  pub fixes : next (complete i t body) later .trace i .response ≡ responseFor i (next (take! i) h .trace i .request) body
 
 abbrev pub AnswersOwn : Type 0
 AnswersOwn =
     Every (λ h. (i : ℕ) (t : Ticket) → step (take! i) (h .world) .event ≡ given t → (ys : List Call) (body : List ℕ)
-    → run ys (next (take! i) h) .log i .entries < h .log i .entries + 2 ^ 32
+    → run ys (next (take! i) h) .trace i .entries < h .trace i .entries + 2 ^ 32
     → step (complete i t body) (run ys (next (take! i) h) .world) .event ≡ number 0
     → Own h (run ys (next (take! i) h)) i t body)
 
 -- to the sender of the command of the slot's last entry, under its tag, from this endpoint, TO 0
 abbrev pub routeOf : History → ℕ → Route
-routeOf h i = record { destination = h .log i .requester; source = h .world .endpoint .eid; to = false; tag = h .log i .tag }
+routeOf h i = record { destination = h .trace i .requester; source = h .world .endpoint .eid; to = false; tag = h .trace i .tag }
 
 -- the packet of the control reply that waits: version 1, to its requester, from this endpoint, SOM and EOM, sequence 0, TO 0, its tag
 abbrev pub replyPacket : Endpoint → List ℕ
@@ -137,7 +134,7 @@ replyPacket e = 1 ∷ e .«reply_to» ∷ e .eid ∷ (0xC0 + e .«reply_tag» % 
 -- the control reply that waited
 pub record Belongs (h : History) (buffer : List ℕ) (bytes : List ℕ) : Type 0 where
   pub of-slot : (i : ℕ) → i ≤ 1 → isPacketOf (phaseAt (h .world) i) (phaseAt (step (poll buffer) (h .world) .world) i) (handed-out bytes) ≡ true
-      → bytes ≡ packet 64 (routeOf h i) (h .log i .response) (h .log i .packets)
+      → bytes ≡ packet 64 (routeOf h i) (h .trace i .response) (h .trace i .packets)
   pub of-none : ((i : ℕ) → i ≤ 1 → isPacketOf (phaseAt (h .world) i) (phaseAt (step (poll buffer) (h .world) .world) i) (handed-out bytes) ≡ false)
       → (h .world .endpoint .«reply_waits» ≡ true) × (bytes ≡ replyPacket (h .world .endpoint))
 

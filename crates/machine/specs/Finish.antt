@@ -11,18 +11,8 @@ use Rattle.machine.specs.State.{World, Outcome, outcome, ended, slotAt, 
 use Rattle.machine.specs.Wire.{wrongStores}
 use Rattle.machine.specs.Process.{responded}
 use Rattle.machine.specs.Receive.{raised}
-use Rattle.machine.specs.declared.Ticket.{Ticket}
-use Rattle.machine.specs.declared.Taking.{Taking}
-use Rattle.machine.specs.declared.Taking.the-variants.{Untaken, Taken}
-use Rattle.machine.specs.declared.Request.{Request}
-use Rattle.machine.specs.declared.Phase.{Phase}
-use Rattle.machine.specs.declared.Phase.the-variants.{Idle, Receive, Process, Answered, Transmit}
-use Rattle.machine.specs.declared.Slot.{Slot}
-use Rattle.machine.specs.declared.Endpoint.{Endpoint}
-use Rattle.machine.specs.declared.Done.{Done}
-use Rattle.machine.specs.declared.TakeAnswer.{TakeAnswer}
+use Rattle.machine.specs.Types.{Ticket, Taking, Untaken, Taken, Request, Phase, Idle, Receive, Process, Answered, Transmit, Slot, Endpoint, Done, TakeAnswer, TakeDone}
 use Rattle.machine.specs.declared.TakeAnswer.the-variants.{Refused, Given}
-use Rattle.machine.specs.declared.TakeDone.{TakeDone}
 
 abbrev pub isSlot : ℕ → Bool
 isSlot i = ltb i 2

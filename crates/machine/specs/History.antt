@@ -1,8 +1,7 @@
 -- Lists of calls on one endpoint, and what the words of "Demand 3 is one statement" mean on them. The history is observed from outside: from
 -- the call, what it answered, and the states before and after it. Its words are written from the document and borrow no test of the machine.
 -- Assumes nothing.
-use Prim.Native.Nat.{ℕ, _+_, _-_, _*_, _/_, _%_, _≤_, _<_}
-use mathlib.Core.Path.{_≡_}
+use Prim.Native.Nat.{ℕ, _+_, _-_, _*_, _/_, _%_}
 use mathlib.Core.Bool.{Bool, true, false, not, _&&_, _||_}
 use mathlib.Core.List.{List, [], _∷_, _++_}
 use lib.Dec.{eqb, leb, ltb}
@@ -11,9 +10,9 @@ use Rattle.lent.specs.Choice.{if_then_else_}
 use Rattle.lent.specs.Bytes.{byteAt, isSet}
 use Rattle.nvme_mi.specs.Check.{checkRight, withCheck}
 use Rattle.machine.specs.State.{World, slotAt}
-use Rattle.machine.specs.Calls.{Call, receive, take!, read, complete, poll, timeout, reset, Event, number, given, part-read, handed-out, Stepped, step, begin}
+use Rattle.machine.specs.Calls.{Call, receive, take!, read, complete, poll, timeout, reset, ofCall, Event, number, given, part-read, handed-out, Stepped, step, begin}
 use Rattle.machine.specs.Valid.{phased, allOf}
-use Rattle.machine.specs.declared.Phase.{Phase}
+use Rattle.machine.specs.Types.{Phase}
 
 -- ---- a packet's bytes
 
@@ -47,7 +46,7 @@ receivesFrom source tag = phased false (λ a. eqb (a .source) source && eqb (a .
 
 -- ---- what the history holds of a slot
 
-pub record Log : Type 0 where
+pub record Trace : Type 0 where
   -- the command that is gathered, or was at the last entry into Process
   pub request : List ℕ
   -- who sent it, and under which tag: of the last entry into Process
@@ -63,6 +62,32 @@ pub record Log : Type 0 where
   -- takes since the last entry that gave a ticket
   pub takes : ℕ
 
+abbrev pub traceOf : List ℕ → ℕ → ℕ → List ℕ → ℕ → List ℕ → ℕ → ℕ → Trace
+traceOf request requester tag response packets payloads entries takes =
+    record {
+      request = request;
+      requester = requester;
+      tag = tag;
+      response = response;
+      packets = packets;
+      payloads = payloads;
+      entries = entries;
+      takes = takes;
+    }
+
+abbrev pub withRequest : Trace → List ℕ → Trace
+withRequest l request = traceOf request (l .requester) (l .tag) (l .response) (l .packets) (l .payloads) (l .entries) (l .takes)
+
+abbrev pub withResponse : Trace → List ℕ → Trace
+withResponse l response = traceOf (l .request) (l .requester) (l .tag) response (l .packets) (l .payloads) (l .entries) (l .takes)
+
+abbrev pub withTakes : Trace → ℕ → Trace
+withTakes l takes = traceOf (l .request) (l .requester) (l .tag) (l .response) (l .packets) (l .payloads) (l .entries) takes
+
+-- so many packets of the slot went, with these payloads
+abbrev pub sending : Trace → ℕ → List ℕ → Trace
+sending l packets payloads = traceOf (l .request) (l .requester) (l .tag) (l .response) packets payloads (l .entries) (l .takes)
+
 -- ---- a command's packet: one that receiving answered with 0, more to come, or 1, command complete
 
 -- with SOM the bit CSI names the slot; without, the slot is the one in Receive with this source and tag
@@ -71,21 +96,11 @@ isFor i p w =
     if hasSom p then eqb (byteAt p 5 % 2) i
     else receivesFrom (sourceOf p) (messageTagOf p) (phaseAt w i)
 
-abbrev pub requestWith : List ℕ → Log → List ℕ
+abbrev pub requestWith : List ℕ → Trace → List ℕ
 requestWith p l = (if hasSom p then [] else l .request) ++ bytesFrom4 p
 
-abbrev pub gaining : List ℕ → Log → Log
-gaining p l =
-    record {
-      request = requestWith p l;
-      requester = l .requester;
-      tag = l .tag;
-      response = l .response;
-      packets = l .packets;
-      payloads = l .payloads;
-      entries = l .entries;
-      takes = l .takes;
-    }
+abbrev pub gaining : List ℕ → Trace → Trace
+gaining p l = withRequest l (requestWith p l)
 
 -- ---- "The response for a slot's ticket belongs to its last entry into Process"
 
@@ -108,46 +123,17 @@ fixedAtEntry i request =
     else []
 
 -- slot i enters Process with this packet
-abbrev pub entering : ℕ → List ℕ → Log → Log
+abbrev pub entering : ℕ → List ℕ → Trace → Trace
 entering i p l =
-    record {
-      request = requestWith p l;
-      requester = sourceOf p;
-      tag = messageTagOf p;
-      response = fixedAtEntry i (requestWith p l);
-      packets = l .packets;
-      payloads = l .payloads;
-      entries = l .entries + 1;
-      takes = 0;
-    }
+    traceOf (requestWith p l) (sourceOf p) (messageTagOf p) (fixedAtEntry i (requestWith p l)) (l .packets) (l .payloads) (l .entries + 1) 0
 
 -- "Else it is [..] the body with which that command was completed"
-abbrev pub completing : ℕ → List ℕ → Log → Log
-completing i body l =
-    record {
-      request = l .request;
-      requester = l .requester;
-      tag = l .tag;
-      response = responseFor i (l .request) body;
-      packets = l .packets;
-      payloads = l .payloads;
-      entries = l .entries;
-      takes = l .takes;
-    }
+abbrev pub completing : ℕ → List ℕ → Trace → Trace
+completing i body l = withResponse l (responseFor i (l .request) body)
 
 -- a take gave the command's ticket
-abbrev pub taking : Log → Log
-taking l =
-    record {
-      request = l .request;
-      requester = l .requester;
-      tag = l .tag;
-      response = l .response;
-      packets = l .packets;
-      payloads = l .payloads;
-      entries = l .entries;
-      takes = l .takes + 1;
-    }
+abbrev pub taking : Trace → Trace
+taking l = withTakes l (l .takes + 1)
 
 abbrev pub byNumber : {A : Type 0} → (ℕ → A) → A → Event → A
 byNumber f a (number n) = f n
@@ -162,7 +148,7 @@ byTicket b a (part-read s) = a
 byTicket b a (handed-out s) = a
 
 -- what a call adds to slot i's command and its response
-abbrev pub commanded : ℕ → Call → World → Event → Log → Log
+abbrev pub commanded : ℕ → Call → World → Event → Trace → Trace
 commanded i (receive p) w v l =
     byNumber (λ n. if eqb n 0 && isFor i p w then gaining p l else if eqb n 1 && isFor i p w then entering i p l else l) l v
 commanded i (take! j) w v l = byTicket (if eqb j i then taking l else l) l v
@@ -193,21 +179,8 @@ payloadIn (given t) = []
 payloadIn (part-read s) = []
 payloadIn (handed-out s) = bytesFrom4 s
 
-abbrev pub sending : Log → ℕ → List ℕ → Log
-sending l packets payloads =
-    record {
-      request = l .request;
-      requester = l .requester;
-      tag = l .tag;
-      response = l .response;
-      packets = packets;
-      payloads = payloads;
-      entries = l .entries;
-      takes = l .takes;
-    }
-
 -- "The first packet is the first since the slot last entered Transmit": then none went yet
-abbrev pub transmitted : Phase → Phase → Event → Log → Log
+abbrev pub transmitted : Phase → Phase → Event → Trace → Trace
 transmitted p q v l =
     if not (isTransmit p) && isTransmit q then sending l 0 []
     else if isPacketOf p q v then sending l (l .packets + 1) (l .payloads ++ payloadIn v)
@@ -218,32 +191,26 @@ transmitted p q v l =
 pub record History : Type 0 where
   pub world : World
   -- of slots 0 and 1, by number
-  pub log : ℕ → Log
+  pub trace : ℕ → Trace
   -- counted polls
   pub counted : ℕ
 
 -- "counting polls with a buffer of at least 68 bytes and no pause flag set"; "Pause flags are read just before the poll that is counted."
 abbrev pub counts : Call → World → Bool
-counts (receive p) w = false
-counts (take! j) w = false
-counts (read j) w = false
-counts (complete j t body) w = false
-counts (poll buffer) w = leb 68 (length buffer) && (not (pausedAt w 0) && not (pausedAt w 1))
-counts (timeout j) w = false
-counts reset w = false
+counts c w = ofCall (λ p. false) (λ buffer. leb 68 (length buffer) && (not (pausedAt w 0) && not (pausedAt w 1))) false false c
 
 abbrev pub one? : Bool → ℕ
 one? b = if b then 1 else 0
 
-abbrev pub logAfter : ℕ → Call → World → Stepped → Log → Log
-logAfter i c w s l = transmitted (phaseAt w i) (phaseAt (s .world) i) (s .event) (commanded i c w (s .event) l)
+abbrev pub traceAfter : ℕ → Call → World → Stepped → Trace → Trace
+traceAfter i c w s l = transmitted (phaseAt w i) (phaseAt (s .world) i) (s .event) (commanded i c w (s .event) l)
 
 unfoldable pub next : Call → History → History
 unfolding step
 next c h =
     record {
       world = step c (h .world) .world;
-      log = λ i. logAfter i c (h .world) (step c (h .world)) (h .log i);
+      trace = λ i. traceAfter i c (h .world) (step c (h .world)) (h .trace i);
       counted = h .counted + one? (counts c (h .world));
     }
 
@@ -258,7 +225,7 @@ unfolding begin
 start eid store0 store1 =
     record {
       world = begin eid store0 store1;
-      log = λ i. record { request = []; requester = 0; tag = 0; response = []; packets = 0; payloads = []; entries = 0; takes = 0 };
+      trace = λ i. traceOf [] 0 0 [] 0 [] 0 0;
       counted = 0;
     }
 
@@ -295,19 +262,13 @@ isAbort i eid p = isPrimitive 2 eid p && eqb (byteAt (bytesFrom4 p) 1 % 2) i
 
 -- slot i is aborted, or the endpoint reset
 abbrev pub cuts : ℕ → Call → World → Bool
-cuts i (receive p) w = isAbort i (w .endpoint .eid) p
-cuts i (take! j) w = false
-cuts i (read j) w = false
-cuts i (complete j t body) w = false
-cuts i (poll buffer) w = false
-cuts i (timeout j) w = false
-cuts i reset w = true
+cuts i c w = ofCall (λ p. isAbort i (w .endpoint .eid) p) (λ buffer. false) true false c
 
 -- ---- packets left
 
 -- "the response's length over 64, rounded up, less the slot's packets since it last entered Transmit"
 abbrev pub packetsLeft : ℕ → History → ℕ
-packetsLeft i h = (length (h .log i .response) + 63) / 64 - h .log i .packets
+packetsLeft i h = (length (h .trace i .response) + 63) / 64 - h .trace i .packets
 
 -- the call hands out slot i's last packet
 abbrev pub lastPacketOut : ℕ → Call → History → Bool

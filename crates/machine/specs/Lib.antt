@@ -1,3 +1,4 @@
+pub mod Types
 pub mod Answers
 pub mod State
 pub mod Wire
@@ -15,4 +16,6 @@ pub mod Stale
 pub mod Commands
 pub mod Pauses
 pub mod Refusals
+pub mod Grounds
 pub mod Replies
+pub mod Gathering

@@ -15,11 +15,7 @@ use Rattle.machine.specs.Poll.{pollSays, polled}
 use Rattle.machine.specs.Valid.{phased, Valid}
 use Rattle.machine.specs.Calls.{poll, Event, number, given, part-read, handed-out, step}
 use Rattle.machine.specs.History.{phaseAt, pausedAt, isTransmit}
-use Rattle.machine.specs.declared.Ticket.{Ticket}
-use Rattle.machine.specs.declared.Taking.{Taking}
-use Rattle.machine.specs.declared.Taking.the-variants.{Untaken, Taken}
-use Rattle.machine.specs.declared.Phase.{Phase}
-use Rattle.machine.specs.declared.Endpoint.{Endpoint}
+use Rattle.machine.specs.Types.{Ticket, Taking, Untaken, Taken, Phase, Endpoint}
 
 -- ---- taking: 30 slot above 1; 31 not in Process, or its response is there; 33 taken already; else 0 and the slot's ticket
 

@@ -8,44 +8,32 @@ use lib.Dec.{eqb, ltb}
 use Rattle.lent.specs.Choice.{if_then_else_}
 use Rattle.lent.specs.Bytes.{byteAt, isSet}
 use Rattle.machine.specs.State.{World}
-use Rattle.machine.specs.Calls.{Call, receive, take!, read, complete, poll, timeout, reset, Event, step}
+use Rattle.machine.specs.Calls.{Call, ofCall, Event, step}
 use Rattle.machine.specs.History.{History, hasSom, sourceOf, messageTagOf, phaseAt, pausedAt, receivesFrom, isFor, requestWith, byNumber, isPrimitive}
 use Rattle.machine.specs.Demands.{Every, isIdleNow}
-use Rattle.machine.specs.declared.Phase.{Phase}
+use Rattle.machine.specs.Types.{Phase}
 
 -- the packet completes slot i's command, and the command has CIAP 1
 abbrev pub hasCiap : ℕ → List ℕ → History → Bool
-hasCiap i p h = isFor i p (h .world) && isSet (byteAt (requestWith p (h .log i)) 2) 1
+hasCiap i p h = isFor i p (h .world) && isSet (byteAt (requestWith p (h .trace i)) 2) 1
 
 -- Pause (0) acts, or a command with CIAP 1 enters Process (answer 1)
 abbrev pub pauses : Call → History → Event → Bool
-pauses (receive p) h v = isPrimitive 0 (h .world .endpoint .eid) p || byNumber (λ n. eqb n 1 && (hasCiap 0 p h || hasCiap 1 p h)) false v
-pauses (take! i) h v = false
-pauses (read i) h v = false
-pauses (complete i t body) h v = false
-pauses (poll buffer) h v = false
-pauses (timeout i) h v = false
-pauses reset h v = false
+pauses c h v =
+    ofCall
+    (λ p. isPrimitive 0 (h .world .endpoint .eid) p || byNumber (λ n. eqb n 1 && (hasCiap 0 p h || hasCiap 1 p h)) false v)
+    (λ buffer. false) false false c
 
 -- Resume (1) acts
 abbrev pub resumes : Call → History → Bool
-resumes (receive p) h = isPrimitive 1 (h .world .endpoint .eid) p
-resumes (take! i) h = false
-resumes (read i) h = false
-resumes (complete i t body) h = false
-resumes (poll buffer) h = false
-resumes (timeout i) h = false
-resumes reset h = false
+resumes c h = ofCall (λ p. isPrimitive 1 (h .world .endpoint .eid) p) (λ buffer. false) false false c
 
 -- a command's first packet that is taken in (answer 0 or 1) and ended an assembly of slot i: the slot was Idle in between
 abbrev pub restarts : ℕ → Call → World → Event → Bool
-restarts i (receive p) w v = byNumber (λ n. ltb n 2 && (hasSom p && receivesFrom (sourceOf p) (messageTagOf p) (phaseAt w i))) false v
-restarts i (take! j) w v = false
-restarts i (read j) w v = false
-restarts i (complete j t body) w v = false
-restarts i (poll buffer) w v = false
-restarts i (timeout j) w v = false
-restarts i reset w v = false
+restarts i c w v =
+    ofCall
+    (λ p. byNumber (λ n. ltb n 2 && (hasSom p && receivesFrom (sourceOf p) (messageTagOf p) (phaseAt w i))) false v)
+    (λ buffer. false) false false c
 
 -- an Idle slot has no flag; Pause and CIAP set it, Resume clears it, entering Idle clears it, and nothing else moves it
 abbrev pub flagAfter : Phase → Bool → Bool → Bool → Bool

@@ -1,6 +1,6 @@
 -- "Polling".
 -- Assumes nothing.
-use Prim.Native.Nat.{ℕ, _+_, _-_, _*_}
+use Prim.Native.Nat.{ℕ, _+_}
 use mathlib.Core.Bool.{Bool, not, _&&_, _||_}
 use mathlib.Core.List.{List, [], _∷_, _++_}
 use lib.Dec.{eqb, ltb}
@@ -8,17 +8,10 @@ use lib.ListN.{length, take, drop}
 use Rattle.lent.specs.Choice.{if_then_else_}
 use Rattle.mctp.specs.Cut.{packets, packet}
 use Rattle.machine.specs.Answers.{nothing-to-send, packet-sent, short-buffer, wrong-stores}
-use Rattle.machine.specs.State.{World, slotAt, storeAt, withSlot, withPhase, idled, replySent, packetSent}
+use Rattle.machine.specs.State.{World, outgoing, slotAt, storeAt, withSlot, withPhase, idled, replySent, packetSent}
 use Rattle.machine.specs.Wire.{unit, packet-room, routeTo, wrongStores}
-use Rattle.machine.specs.declared.Response.{Response}
-use Rattle.machine.specs.declared.Phase.{Phase}
-use Rattle.machine.specs.declared.Phase.the-variants.{Idle, Receive, Process, Answered, Transmit}
-use Rattle.machine.specs.declared.Slot.{Slot}
-use Rattle.machine.specs.declared.Endpoint.{Endpoint}
-use Rattle.machine.specs.declared.PollAnswer.{PollAnswer}
+use Rattle.machine.specs.Types.{Outgoing, Phase, Idle, Receive, Process, Answered, Transmit, Slot, Endpoint, PollAnswer, Ready, Nothing, From}
 use Rattle.machine.specs.declared.PollAnswer.the-variants.{Refused, Nothing as Silent, Packet}
-use Rattle.machine.specs.declared.Ready.{Ready}
-use Rattle.machine.specs.declared.Ready.the-variants.{Nothing, From}
 
 -- what a poll answers, the state that it leaves, and the lent buffer; it writes no store
 pub record Polled : Type 0 where
@@ -46,7 +39,7 @@ sendingOr i (Answered r) other = other
 sendingOr i (Transmit r) other = From i r
 
 -- a packet of it went
-abbrev pub hasBegun : Response → Bool
+abbrev pub hasBegun : Outgoing → Bool
 hasBegun r = ltb 0 (r .sent)
 
 abbrev pub begunOr : ℕ → Phase → Ready → Ready
@@ -88,25 +81,26 @@ unfoldable pub sentControl : Endpoint → List ℕ → Polled
 sentControl e buffer = sent (controlPacket e) (replySent e) buffer
 
 -- packet number `sent` of the response at the front of the slot's store
-abbrev pub commandPacket : World → ℕ → Response → List ℕ
-commandPacket w i r = packet unit (routeTo (w .endpoint) (r .requester) (r .tag)) (take (r .length) (storeAt w i)) (r .sent)
+abbrev pub commandPacket : World → ℕ → Outgoing → List ℕ
+commandPacket w i r =
+    packet unit (routeTo (w .endpoint) (r .response .requester) (r .response .tag)) (take (r .response .length) (storeAt w i)) (r .sent)
 
 -- the packet that goes next is the response's last
-abbrev pub isLast : Response → Bool
-isLast r = eqb (r .sent + 1) (packets unit (r .length))
+abbrev pub isLast : Outgoing → Bool
+isLast r = eqb (r .sent + 1) (packets unit (r .response .length))
 
 -- one more of its packets went
-abbrev pub advanced : Response → Response
-advanced r = record { requester = r .requester; tag = r .tag; length = r .length; sent = r .sent + 1 }
+abbrev pub advanced : Outgoing → Outgoing
+advanced r = outgoing (r .response) (r .sent + 1)
 
 -- "After its last packet a slot is Idle."
-abbrev pub afterPacket : Slot → Response → Slot
+abbrev pub afterPacket : Slot → Outgoing → Slot
 afterPacket s r =
     if isLast r then idled s
     else withPhase s (Transmit (advanced r))
 
 -- slot i is then the one that last began
-unfoldable pub sentCommand : World → ℕ → Response → List ℕ → Polled
+unfoldable pub sentCommand : World → ℕ → Outgoing → List ℕ → Polled
 sentCommand w i r buffer =
     sent (commandPacket w i r)
     (packetSent (withSlot (w .endpoint) i (afterPacket (slotAt (w .endpoint) i) r)) (otherSlot i))

@@ -2,7 +2,7 @@
 -- Assumes nothing.
 use Prim.Native.Nat.{ℕ, _+_}
 use mathlib.Core.Bool.{Bool}
-use mathlib.Core.List.{List, _∷_}
+use mathlib.Core.List.{List}
 use lib.ListN.{length}
 use Rattle.lent.specs.Choice.{if_then_else_}
 use Rattle.lent.specs.Bytes.{put}
@@ -14,13 +14,7 @@ use Rattle.nvme_mi.specs.declared.Fault.the-variants.{NoFault, Parameter, Failu
 use Rattle.machine.specs.State.{World, slotAt, storeAt, withSlot, withStore, withEndpoint, onSlot, withPhase, slot, nextTicket, settled}
 use Rattle.machine.specs.Wire.{response-place}
 use Rattle.machine.specs.Control.{pause}
-use Rattle.machine.specs.declared.Assembly.{Assembly}
-use Rattle.machine.specs.declared.Taking.the-variants.{Untaken}
-use Rattle.machine.specs.declared.Request.{Request}
-use Rattle.machine.specs.declared.Response.{Response}
-use Rattle.machine.specs.declared.Phase.the-variants.{Process}
-use Rattle.machine.specs.declared.Slot.{Slot}
-use Rattle.machine.specs.declared.Endpoint.{Endpoint}
+use Rattle.machine.specs.Types.{Assembly, Untaken, Request, Response, Process, Slot, Endpoint}
 
 -- the command that an assembly became
 abbrev pub request : Assembly → MessageHeader → Request
@@ -30,9 +24,9 @@ request a mh = record { source = a .source; tag = a .tag; kind = mh .nmimt; leng
 abbrev pub processing : Slot → Request → Slot
 processing s r = slot (nextTicket (s .ticket)) (s .paused) (s .busy) (Process r)
 
--- to the requester, under the request's tag; none of its packets went
+-- to the requester, under the request's tag
 abbrev pub responseTo : Request → List ℕ → Response
-responseTo r body = record { requester = r .source; tag = r .tag; length = length body + 8; sent = 0 }
+responseTo r body = record { requester = r .source; tag = r .tag; length = length body + 8 }
 
 -- The response overwrites the front of the slot's store. The CSI that chose the slot is its number.
 unfoldable pub responded : World → ℕ → Request → List ℕ → World

@@ -1,33 +1,30 @@
 -- "Receiving, in this order".
 -- Assumes nothing.
 use Prim.Native.Nat.{ℕ, _+_, _^_}
-use mathlib.Core.Bool.{Bool, true, false, not, _&&_, _||_}
+use mathlib.Core.Bool.{Bool, true, false, not, _&&_}
 use mathlib.Core.List.{List, [], _∷_}
 use lib.Bits.{bitOr}
-use lib.Dec.{eqb, ltb}
+use lib.Dec.{eqb}
 use lib.ListN.{length, take}
 use Rattle.lent.specs.Choice.{if_then_else_}
-use Rattle.lent.specs.Bytes.{byteAt, put}
+use Rattle.lent.specs.Bytes.{put}
 use Rattle.mctp.specs.Header.{readHeader, payloadOf, too-long, wrong-version, not-ours, wrong-direction}
-use Rattle.mctp.specs.Gather.{isCut, joinRefusal, not-full, no-assembly, out-of-sequence}
+use Rattle.mctp.specs.Gather.{joinRefusal, not-full, no-assembly, out-of-sequence}
 use Rattle.mctp.specs.declared.Header.{Header}
 use Rattle.mctp.specs.declared.Read.{Read}
 use Rattle.mctp.specs.declared.Read.the-variants.{Refused, Packet}
-use Rattle.nvme_mi.specs.Message.{message-type, control, messageHeader}
-use Rattle.nvme_mi.specs.Check.{checkRight}
-use Rattle.nvme_mi.specs.declared.MessageHeader.{MessageHeader}
-use Rattle.machine.specs.Answers.{more-to-come, command-complete, control-done, not-a-request, message-too-short, not-twelve, check-wrong, slot-not-idle, wrong-stores}
+use Rattle.nvme_mi.specs.Message.{messageHeader}
+use Rattle.opening.specs.Opening.{opened, joinedIn, check-wrong}
+use Rattle.opening.specs.declared.First.{First}
+use Rattle.opening.specs.declared.First.the-variants.{Refused as Unopened, Control, Command}
+use Rattle.opening.specs.declared.Joined.{Joined}
+use Rattle.opening.specs.declared.Joined.the-variants.{More, Wrong, Whole}
+use Rattle.machine.specs.Answers.{more-to-come, command-complete, control-done, slot-not-idle, wrong-stores}
 use Rattle.machine.specs.State.{World, Outcome, outcome, slotAt, storeAt, withStore, withEndpoint, withFlags, onSlot, onBoth, withPhase, withBusy, idled, isIdle}
-use Rattle.machine.specs.Wire.{unit, store-size, smallest, control-size, inward, wrongStores}
+use Rattle.machine.specs.Wire.{unit, store-size, inward, wrongStores}
 use Rattle.machine.specs.Process.{entered}
 use Rattle.machine.specs.Control.{controlled}
-use Rattle.machine.specs.declared.Assembly.{Assembly}
-use Rattle.machine.specs.declared.Phase.{Phase}
-use Rattle.machine.specs.declared.Phase.the-variants.{Idle, Receive, Process, Answered, Transmit}
-use Rattle.machine.specs.declared.Slot.{Slot}
-use Rattle.machine.specs.declared.Endpoint.{Endpoint}
-use Rattle.machine.specs.declared.Holder.{Holder}
-use Rattle.machine.specs.declared.Holder.the-variants.{Nowhere, At}
+use Rattle.machine.specs.Types.{Assembly, Phase, Idle, Receive, Process, Answered, Transmit, Slot, Endpoint, Holder, Nowhere, At}
 
 -- ---- the column "Flag bit" of both tables, and of SOM 0: No., bit. A number that is not here sets none; 20 sets its slot's bit 3.
 
@@ -99,36 +96,22 @@ holder e source tag = holderIn source tag 0 (slotAt e 0 .phase) (holderIn source
 
 -- ---- a command's packet that is not refused: its payload goes behind the bytes so far
 
--- "With EOM a command is checked whole: wrong, 19 (bit 4) and Idle; right, the slot enters Process."
-unfoldable pub checked : World → ℕ → Assembly → List ℕ → Outcome
-unfolding refused entered
-checked w i a message =
-    if not (checkRight message) then refused (dropped w i) check-wrong
-    else outcome command-complete (entered w i a (messageHeader message))
-
--- the assembly with this packet, whose bytes are in the store
-unfoldable pub joined : World → ℕ → Assembly → Bool → Outcome
-unfolding checked
-joined w i a eom =
-    if eom then checked w i a (take (a .length) (storeAt w i))
-    else outcome more-to-come (onSlot w i (withPhase (slotAt (w .endpoint) i) (Receive a)))
-
 abbrev pub assembly : Header → ℕ → Assembly
 assembly h n = record { source = h .source; tag = h .tag; sequence = h .sequence; length = n }
 
+-- what the endpoint does with it: "wrong, 19 (bit 4) and Idle; right, the slot enters Process"
+abbrev pub landed : World → ℕ → Assembly → Joined → Outcome
+landed w i a More = outcome more-to-come (onSlot w i (withPhase (slotAt (w .endpoint) i) (Receive a)))
+landed w i a Wrong = refused (dropped w i) check-wrong
+landed w i a Whole = outcome command-complete (entered w i a (messageHeader (take (a .length) (storeAt w i))))
+
 unfoldable pub gathered : World → ℕ → ℕ → Header → List ℕ → Outcome
-unfolding joined
+unfolding refused entered joinedIn
 gathered w i at h payload =
-    joined (withStore w i (put (storeAt w i) at payload)) i (assembly h (at + length payload)) (h .eom)
+    let v = withStore w i (put (storeAt w i) at payload) in
+    landed v i (assembly h (at + length payload)) (joinedIn (take (at + length payload) (storeAt v i)) (h .eom))
 
 -- ---- SOM 1: the second table, its message `m` being the payload. An assembly with this source and tag has ended.
-
-unfoldable pub firstControl : World → Header → MessageHeader → List ℕ → Outcome
-unfolding refused controlled
-firstControl w h mh m =
-    if not (h .eom) || not (eqb (length m) control-size) then refused w not-twelve
-    else if not (checkRight m) then refused w check-wrong
-    else outcome control-done (withEndpoint w (controlled (w .endpoint) h mh m))
 
 unfoldable pub firstCommand : World → Header → ℕ → List ℕ → Outcome
 unfolding refusedBusy gathered
@@ -136,20 +119,14 @@ firstCommand w h i m =
     if not (isIdle (slotAt (w .endpoint) i .phase)) then refusedBusy w i
     else gathered w i 0 h m
 
-unfoldable pub firstMessage : World → Header → MessageHeader → List ℕ → Outcome
-unfolding refused firstControl firstCommand
-firstMessage w h mh m =
-    if mh .ror then refused w not-a-request
-    else if eqb (mh .nmimt) control then firstControl w h mh m
-    else firstCommand w h (mh .csi) m
+abbrev pub firstBy : World → Header → List ℕ → First → Outcome
+firstBy w h m (Unopened n) = refused w n
+firstBy w h m Control = outcome control-done (withEndpoint w (controlled (w .endpoint) h (messageHeader m) m))
+firstBy w h m Command = firstCommand w h (messageHeader m .csi) m
 
 unfoldable pub first : World → Header → List ℕ → Outcome
-unfolding refused firstMessage
-first w h m =
-    if not (eqb (byteAt m 0) message-type) then refused w not-a-request
-    else if isCut unit h (length m) then refused w not-full
-    else if h .eom && ltb (length m) smallest then refused w message-too-short
-    else firstMessage w h (messageHeader m) m
+unfolding refused controlled firstCommand opened
+first w h m = firstBy w h m (opened unit false h m)
 
 -- ---- SOM 0
 

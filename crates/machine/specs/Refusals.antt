@@ -17,9 +17,7 @@ use Rattle.machine.specs.Valid.{Valid, Sound, phased}
 use Rattle.machine.specs.History.{hasSom, sourceOf, messageTagOf, bytesFrom4, phaseAt, receivesFrom, isFor}
 use Rattle.machine.specs.Numbers.{rightSizes}
 use Rattle.machine.specs.Demands.{isIdleNow}
-use Rattle.machine.specs.declared.Phase.{Phase}
-use Rattle.machine.specs.declared.Phase.the-variants.{Idle}
-use Rattle.machine.specs.declared.Slot.{Slot}
+use Rattle.machine.specs.Types.{Phase, Idle, Slot}
 
 abbrev pub isOneOf : ℕ → List ℕ → Bool
 isOneOf n [] = false

@@ -13,15 +13,10 @@ use Rattle.nvme_mi.specs.Check.{withCheck}
 use Rattle.machine.specs.State.{World, slot, slotAt}
 use Rattle.machine.specs.Receive.{received}
 use Rattle.machine.specs.Valid.{phased, Sound}
-use Rattle.machine.specs.Calls.{Call, receive, take!, read, complete, poll, timeout, reset, Event, number, given, part-read, handed-out, Stepped, step}
+use Rattle.machine.specs.Calls.{Call, receive, poll, reset, ofCall, Event, number, given, part-read, handed-out, Stepped, step}
 use Rattle.machine.specs.History.{sourceOf, messageTagOf, bytesFrom4, phaseAt, pausedAt, receivesFrom, isPacketOf, byNumber, one?, isControl}
 use Rattle.machine.specs.Demands.{Every, isIdleNow, replyPacket}
-use Rattle.machine.specs.declared.Taking.{Taking}
-use Rattle.machine.specs.declared.Taking.the-variants.{Untaken, Taken}
-use Rattle.machine.specs.declared.Phase.{Phase}
-use Rattle.machine.specs.declared.Phase.the-variants.{Idle, Receive, Process, Transmit}
-use Rattle.machine.specs.declared.Slot.{Slot}
-use Rattle.machine.specs.declared.Endpoint.{Endpoint}
+use Rattle.machine.specs.Types.{Taking, Untaken, Taken, Phase, Idle, Receive, Process, Transmit, Slot, Endpoint}
 
 -- ---- what a control primitive says: a message m of header, opcode, TAG, CPSP (2), check
 
@@ -91,7 +86,7 @@ replyOf m cpsr = withCheck ((0x84 ∷ (128 + csiOf m) ∷ 0 ∷ 0 ∷ []) ++ bod
 
 -- "A slot in Process with its response there and its own flag clear goes to Transmit at once."
 abbrev pub unpaused : Phase → Phase
-unpaused = phased Idle (λ a. Receive a) (λ r. Process r) (λ r. Transmit r) (λ r. Transmit r)
+unpaused = phased Idle (λ a. Receive a) (λ r. Process r) (λ r. Transmit (record { response = r; sent = 0 })) (λ r. Transmit r)
 
 -- slot j, found as s. Pause: the flag of each slot that is not Idle. Resume: no flag. Abort: the primitive's slot is Idle. Get State: with CPSP
 -- bit 0, the slot's bit 3 is cleared.
@@ -152,13 +147,7 @@ pub record SameReply (e f : Endpoint) : Type 0 where
 
 -- a receive that answers 2, or a reset: the reply that waited is replaced or gone
 abbrev pub replaces : Call → Event → Bool
-replaces (receive p) v = byNumber (λ n. eqb n 2) false v
-replaces (take! i) v = false
-replaces (read i) v = false
-replaces (complete i t body) v = false
-replaces (poll buffer) v = false
-replaces (timeout i) v = false
-replaces reset v = true
+replaces c v = ofCall (λ p. byNumber (λ n. eqb n 2) false v) (λ buffer. false) true false c
 
 -- what a call does to the reply
 pub data ReplyAfter (w : World) : Call → Stepped → Type 0 where
@@ -188,13 +177,7 @@ pub data ReplyFate : Type 0 where
 
 -- a poll with a buffer of at least 68 bytes, whatever the pause flags
 abbrev pub hasRoom : Call → Bool
-hasRoom (receive p) = false
-hasRoom (take! i) = false
-hasRoom (read i) = false
-hasRoom (complete i t body) = false
-hasRoom (poll buffer) = leb 68 (length buffer)
-hasRoom (timeout i) = false
-hasRoom reset = false
+hasRoom = ofCall (λ p. false) (λ buffer. leb 68 (length buffer)) false false
 
 unfoldable pub replyFate : ℕ → List Call → World → ReplyFate
 unfolding step

@@ -12,7 +12,7 @@ use Rattle.machine.specs.State.{slotAt}
 use Rattle.machine.specs.Calls.{Call, receive, complete, poll, number, handed-out, step}
 use Rattle.machine.specs.History.{History, phaseAt, isFor, requestWith, responseFor, fixedAtEntry, isPacketOf, run, start}
 use Rattle.machine.specs.Demands.{Every, isProcess, routeOf}
-use Rattle.machine.specs.declared.Ticket.{Ticket}
+use Rattle.machine.specs.Types.{Ticket}
 
 -- the slot's present ticket
 abbrev pub presentTicket : History → ℕ → ℕ
@@ -31,14 +31,14 @@ pub data FixedBy (first : History) (i : ℕ) (xs : List Call) : Type 0 where
   -- the packet with which the slot's last command came in whole: a test at its entry failed
   at-entry : (us : List Call) (p : List ℕ) (vs : List Call) → xs ≡ us ++ (receive p ∷ vs)
       → step (receive p) (run us first .world) .event ≡ number 1 → isFor i p (run us first .world) ≡ true
-      → run xs first .log i .entries ≡ run us first .log i .entries + 1
-      → run xs first .log i .response ≡ fixedAtEntry i (requestWith p (run us first .log i)) → FixedBy first i xs
+      → run xs first .trace i .entries ≡ run us first .trace i .entries + 1
+      → run xs first .trace i .response ≡ fixedAtEntry i (requestWith p (run us first .trace i)) → FixedBy first i xs
   -- a completion that was accepted, whose ticket was the slot's present one then and is so now; no command of the slot came in since
   by-completion : (us : List Call) (t : Ticket) (body : List ℕ) (vs : List Call) → xs ≡ us ++ (complete i t body ∷ vs)
       → step (complete i t body) (run us first .world) .event ≡ number 0
       → t .0 ≡ presentTicket (run us first) i → t .0 ≡ presentTicket (run xs first) i
-      → run xs first .log i .entries ≡ run us first .log i .entries
-      → run xs first .log i .response ≡ responseFor i (run us first .log i .request) body → FixedBy first i xs
+      → run xs first .trace i .entries ≡ run us first .trace i .entries
+      → run xs first .trace i .response ≡ responseFor i (run us first .trace i .request) body → FixedBy first i xs
 
 -- NEVER STALE. Every packet that leaves a slot is the next one of a response that is there, to the sender of the slot's last command under its
 -- tag; and that response was fixed at the slot's last entry, or by a completion of this list whose ticket is the slot's present one.
@@ -47,6 +47,6 @@ NeverStale =
     (eid : ℕ) (store0 store1 : List ℕ) → length store0 ≡ 4224 → length store1 ≡ 4224 → (xs : List Call) (i : ℕ) → i ≤ 1 → (buffer bytes : List ℕ)
     → step (poll buffer) (run xs (start eid store0 store1) .world) .event ≡ handed-out bytes
     → isPacketOf (phaseAt (run xs (start eid store0 store1) .world) i) (phaseAt (step (poll buffer) (run xs (start eid store0 store1) .world) .world) i) (handed-out bytes) ≡ true
-    → (run xs (start eid store0 store1) .log i .response ≡ [] → ⊥)
+    → (run xs (start eid store0 store1) .trace i .response ≡ [] → ⊥)
     × FixedBy (start eid store0 store1) i xs
-    × (bytes ≡ packet 64 (routeOf (run xs (start eid store0 store1)) i) (run xs (start eid store0 store1) .log i .response) (run xs (start eid store0 store1) .log i .packets))
+    × (bytes ≡ packet 64 (routeOf (run xs (start eid store0 store1)) i) (run xs (start eid store0 store1) .trace i .response) (run xs (start eid store0 store1) .trace i .packets))

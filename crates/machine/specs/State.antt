@@ -1,18 +1,12 @@
 -- The state, "The endpoint has two slots, kept side by side and chosen by number", and both lent stores.
 -- Assumes nothing.
 use Prim.Native.Nat.{ℕ, _+_, _%_, _^_}
-use mathlib.Core.Bool.{Bool, true, false, _&&_, _||_}
+use mathlib.Core.Bool.{Bool, true, false}
 use mathlib.Core.List.{List, [], _∷_}
 use lib.Dec.{eqb}
 use lib.ListN.{getD, set}
 use Rattle.lent.specs.Choice.{if_then_else_}
-use Rattle.machine.specs.declared.Ticket.{Ticket}
-use Rattle.machine.specs.declared.Response.{Response}
-use Rattle.machine.specs.declared.Phase.{Phase}
-use Rattle.machine.specs.declared.Phase.the-variants.{Idle, Receive, Process, Answered, Transmit}
-use Rattle.machine.specs.declared.Slot.{Slot}
-use Rattle.machine.specs.declared.Endpoint.{Endpoint}
-use Rattle.machine.specs.declared.Done.{Done}
+use Rattle.machine.specs.Types.{Ticket, Response, Outgoing, Phase, Idle, Receive, Process, Answered, Transmit, Slot, Endpoint, Done}
 
 -- ---- tickets
 
@@ -52,9 +46,13 @@ isIdle (Process r) = false
 isIdle (Answered r) = false
 isIdle (Transmit r) = false
 
+-- a response of which so many packets went
+abbrev pub outgoing : Response → ℕ → Outgoing
+outgoing r n = record { response = r; sent = n }
+
 -- "A slot in Process with its response there and its own flag clear goes to Transmit at once."
 abbrev pub settled : Bool → Response → Phase
-settled paused r = if paused then Answered r else Transmit r
+settled paused r = if paused then Answered r else Transmit (outgoing r 0)
 
 -- ---- the endpoint
 

@@ -2,24 +2,18 @@
 -- the order in which an image of a state would be tested, and as facts by name; `valid-facts` and `facts-valid` (proofs/Invariant)
 -- show that the two say the same.
 -- Assumes nothing.
-use Prim.Native.Nat.{ℕ, _+_, _*_, _/_, _%_, _^_, _≤_, _<_}
+use Prim.Native.Nat.{ℕ, _*_, _/_, _%_, _^_, _≤_, _<_}
 use mathlib.Core.Path.{_≡_}
 use mathlib.Core.Bool.{Bool, true, false, not, _&&_, _||_}
 use mathlib.Core.List.{List, [], _∷_}
 use lib.Dec.{eqb, leb, ltb}
 use lib.ListN.{length}
-use Rattle.lent.specs.Choice.{if_then_else_}
+use Rattle.nvme_mi.specs.Message.{smallest}
 use Rattle.machine.specs.State.{World, isIdle}
-use Rattle.machine.specs.Wire.{unit, store-size, smallest}
+use Rattle.machine.specs.Wire.{unit, store-size}
 use Rattle.machine.specs.Receive.{gathers}
 use Rattle.machine.specs.Poll.{otherSlot}
-use Rattle.machine.specs.declared.Assembly.{Assembly}
-use Rattle.machine.specs.declared.Request.{Request}
-use Rattle.machine.specs.declared.Response.{Response}
-use Rattle.machine.specs.declared.Phase.{Phase}
-use Rattle.machine.specs.declared.Phase.the-variants.{Idle, Receive, Process, Answered, Transmit}
-use Rattle.machine.specs.declared.Slot.{Slot}
-use Rattle.machine.specs.declared.Endpoint.{Endpoint}
+use Rattle.machine.specs.Types.{Assembly, Request, Response, Outgoing, Phase, Idle, Receive, Process, Answered, Transmit, Slot, Endpoint}
 
 -- ---- as a test
 
@@ -31,7 +25,7 @@ abbrev pub between : ℕ → ℕ → ℕ → Bool
 between low high n = leb low n && leb n high
 
 -- a value for each phase
-abbrev pub phased : {A : Type 0} → A → (Assembly → A) → (Request → A) → (Response → A) → (Response → A) → Phase → A
+abbrev pub phased : {A : Type 0} → A → (Assembly → A) → (Request → A) → (Response → A) → (Outgoing → A) → Phase → A
 phased i r p a t Idle = i
 phased i r p a t (Receive x) = r x
 phased i r p a t (Process x) = p x
@@ -52,17 +46,17 @@ apart p q = phased true (λ b. not (gathers (b .source) (b .tag) p)) (λ r. true
 
 -- a response in Transmit has a packet left
 abbrev pub packetLeft : Phase → Bool
-packetLeft = phased true (λ a. true) (λ r. true) (λ r. true) (λ r. ltb (unit * r .sent) (r .length))
+packetLeft = phased true (λ a. true) (λ r. true) (λ r. true) (λ r. ltb (unit * r .sent) (r .response .length))
 
 -- the request fits its store, and so does the response
 abbrev pub messageFits : Phase → Bool
 messageFits =
     phased true (λ a. true) (λ r. between smallest store-size (r .length)) (λ r. between smallest-response store-size (r .length))
-    (λ r. between smallest-response store-size (r .length))
+    (λ r. between smallest-response store-size (r .response .length))
 
--- a response waits in Process only while its own flag is set, and none of its packets went
+-- a response waits in Process only while its own flag is set
 abbrev pub waitsPaused : Slot → Bool
-waitsPaused s = phased true (λ a. true) (λ r. true) (λ r. s .paused && eqb (r .sent) 0) (λ r. true) (s .phase)
+waitsPaused s = phased true (λ a. true) (λ r. true) (λ r. s .paused) (λ r. true) (s .phase)
 
 -- a response of which a packet went
 abbrev pub isBegun : Phase → Bool
@@ -118,8 +112,8 @@ abbrev pub PhaseFacts : Bool → Phase → Type 0
 PhaseFacts paused Idle = paused ≡ false
 PhaseFacts paused (Receive a) = (unit ≤ a .length) × (a .length ≤ store-size)
 PhaseFacts paused (Process r) = (smallest ≤ r .length) × (r .length ≤ store-size)
-PhaseFacts paused (Answered r) = (paused ≡ true) × (r .sent ≡ 0) × Fits r
-PhaseFacts paused (Transmit r) = (unit * r .sent < r .length) × Fits r
+PhaseFacts paused (Answered r) = (paused ≡ true) × Fits r
+PhaseFacts paused (Transmit r) = (unit * r .sent < r .response .length) × Fits (r .response)
 
 pub record ValidSlot (turn i : ℕ) (s : Slot) : Type 0 where
   pub phase-facts : PhaseFacts (s .paused) (s .phase)
@@ -133,10 +127,14 @@ pub record ValidFlags (f : ℕ) : Type 0 where
   pub thirteen : f / 2 ^ 13 % 2 ≡ 0
   pub top : f / 2 ^ 15 ≡ 0
 
+-- the EID, and the slot that goes first
+pub record ValidNumbers (eid turn : ℕ) : Type 0 where
+  pub eid-least : 8 ≤ eid
+  pub eid-most : eid ≤ 254
+  pub turn-most : turn ≤ 1
+
 pub record Valid (e : Endpoint) : Type 0 where
-  pub eid-least : 8 ≤ e .eid
-  pub eid-most : e .eid ≤ 254
-  pub turn-most : e .turn ≤ 1
+  pub numbers : ValidNumbers (e .eid) (e .turn)
   pub slots-valid : ValidSlots (e .turn) (e .slots)
   pub flags-valid : ValidFlags (e .flags)
   pub reply-twelve : length (e .reply) ≡ 12

@@ -9,7 +9,7 @@ use lib.ListN.{length}
 use Rattle.lent.specs.Bytes.{byteAt, isSet}
 use Rattle.mctp.specs.declared.Route.{Route}
 use Rattle.machine.specs.State.{World}
-use Rattle.machine.specs.declared.Endpoint.{Endpoint}
+use Rattle.machine.specs.Types.{Endpoint}
 
 -- the largest payload of a packet
 abbrev pub unit : ℕ
@@ -22,14 +22,6 @@ store-size = 4224
 -- where a response lies in its slot's store: at the front, over the request
 abbrev pub response-place : ℕ
 response-place = 0
-
--- the shortest message
-abbrev pub smallest : ℕ
-smallest = 8
-
--- a control request, header to check
-abbrev pub control-size : ℕ
-control-size = 12
 
 -- a buffer that takes every packet
 abbrev pub packet-room : ℕ

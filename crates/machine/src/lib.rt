@@ -1,4 +1,14 @@
 // The endpoint's state, and what its calls answer. The machine itself, what every call answers and leaves, is defined in specs/.
+pub mod answers;
+pub mod flags;
+pub mod sizes;
+
+use sizes::CONTROL_SIZE;
+
+// The EIDs that an endpoint may have.
+pub const FIRST_EID: u8 = 8;
+
+pub const LAST_EID: u8 = 254;
 
 // Document 01's ticket: the number of a command of its slot, modulo 2^32. It is a kind of number of its own, never mixed with a
 // slot number.
@@ -27,11 +37,16 @@ pub struct Request {
     pub taking: Taking,
 }
 
-// A response at the front of the slot's store: to whom, under which message tag, its length, and how many of its packets went.
+// A response at the front of the slot's store: to whom, under which message tag, and its length.
 pub struct Response {
     pub requester: u8,
     pub tag: u8,
     pub length: usize,
+}
+
+// A response that is being sent, and how many of its packets went.
+pub struct Outgoing {
+    pub response: Response,
     pub sent: usize,
 }
 
@@ -41,7 +56,7 @@ pub enum Phase {
     Receive(Assembly),
     Process(Request),
     Answered(Response),
-    Transmit(Response),
+    Transmit(Outgoing),
 }
 
 // A command slot. `busy` is bit 3 of Get State: a command was refused because the slot was not Idle.
@@ -59,7 +74,7 @@ pub struct Endpoint {
     pub eid: u8,
     pub slots: [Slot; 2],
     pub flags: u16,
-    pub reply: [u8; 12],
+    pub reply: [u8; CONTROL_SIZE],
     pub reply_waits: bool,
     pub reply_to: u8,
     pub reply_tag: u8,
@@ -105,7 +120,7 @@ pub enum Holder {
 // The slot whose packet goes next.
 pub enum Ready {
     Nothing,
-    From(usize, Response),
+    From(usize, Outgoing),
 }
 
 // What a control primitive reports in CPSR, and the state that it leaves.

@@ -1,7 +1,7 @@
 -- A message cut into packets, as document 01's "Polling" says: full payloads of `unit` bytes, then the rest; sequence from 0 modulo
 -- 4, SOM and EOM at the ends.
 -- Assumes nothing.
-use Prim.Native.Nat.{ℕ, zero, suc, _+_, _-_, _*_, _/_, _%_}
+use Prim.Native.Nat.{ℕ, zero, suc, _+_, _-_, _*_, _/_}
 use mathlib.Core.List.{List, [], _∷_, _++_}
 use lib.Dec.{eqb}
 use lib.ListN.{length, take, drop}

@@ -8,6 +8,38 @@ ghost use Rattle.mctp.specs.Header.{readHeader, readSays, headerNumbers,
 ghost use Rattle.mctp.specs.Cut.{packets, packet};
 ghost use Rattle.mctp.specs.Gather.{isCut, joinRefusal};
 
+// Answers to a packet by its header, in the order of the tests.
+pub const TOO_SHORT: u8 = 10;
+
+pub const TOO_LONG: u8 = 11;
+
+pub const WRONG_VERSION: u8 = 12;
+
+pub const NOT_OURS: u8 = 13;
+
+pub const WRONG_DIRECTION: u8 = 14;
+
+// Answers to a packet that does not join a message.
+pub const NOT_FULL: u8 = 16;
+
+pub const NO_ASSEMBLY: u8 = 21;
+
+pub const OUT_OF_SEQUENCE: u8 = 22;
+
+pub const MESSAGE_TOO_LONG: u8 = 23;
+
+// In place of a refusal's number: there is none.
+pub const NO_REFUSAL: u8 = 0;
+
+// The bytes in front of a packet's payload.
+pub const HEADER_SIZE: usize = 4;
+
+// A header and one byte.
+const SHORTEST_PACKET: usize = HEADER_SIZE + 1;
+
+// The low four bits of byte 0.
+const VERSION: u8 = 1;
+
 // The fields of a packet's header that a receiver uses.
 pub struct Header {
     pub source: u8,
@@ -36,21 +68,21 @@ pub fn read_header(eid: u8, unit: usize, to: bool, packet: &[u8]) -> Read
     ensures { λ r. ⌜ r ≡ readHeader eid unit to (now (packet .entry)) ⌝ }
     ensures { λ r. ⌜ readSays r ≡ headerNumbers eid unit to (now (packet .entry)) ⌝ }
 {
-    if packet.len() < 5 {
-        return Read::Refused(10);
+    if packet.len() < SHORTEST_PACKET {
+        return Read::Refused(TOO_SHORT);
     }
-    if packet.len() - 4 > unit {
-        return Read::Refused(11);
+    if packet.len() - HEADER_SIZE > unit {
+        return Read::Refused(TOO_LONG);
     }
-    if packet[0] % 16 != 1 {
-        return Read::Refused(12);
+    if packet[0] % 16 != VERSION {
+        return Read::Refused(WRONG_VERSION);
     }
     if packet[1] != eid {
-        return Read::Refused(13);
+        return Read::Refused(NOT_OURS);
     }
     let bits = packet[3];
     if (bits / 8 % 2 == 1) != to {
-        return Read::Refused(14);
+        return Read::Refused(WRONG_DIRECTION);
     }
     Read::Packet(Header {
         source: packet[2],
@@ -69,7 +101,7 @@ pub fn is_cut(unit: usize, header: Header, n: usize) -> bool
 }
 
 // Why a later packet with n payload bytes does not join an assembly, whose last packet had this sequence number and of which
-// `gathered` bytes are there; 0 where it joins.
+// `gathered` bytes are there; NO_REFUSAL where it joins.
 pub fn join_refusal(
     unit: usize,
     limit: usize,
@@ -82,15 +114,15 @@ pub fn join_refusal(
     ensures { λ r. ⌜ r ≡ joinRefusal unit limit sequence gathered header n ⌝ }
 {
     if header.sequence != (sequence % 4 + 1) % 4 {
-        return 22;
+        return OUT_OF_SEQUENCE;
     }
     if is_cut(unit, header, n) {
-        return 16;
+        return NOT_FULL;
     }
     if n > limit - gathered {
-        return 23;
+        return MESSAGE_TOO_LONG;
     }
-    0
+    NO_REFUSAL
 }
 
 // How many packets a message of n bytes is cut into.
@@ -118,7 +150,7 @@ fn write_header(route: Route, som: bool, eom: bool, sequence: usize, out: &mut [
     requires { ⌜ 4 ≤ length (now out) ⌝ }
     ensures { λ _. ⌜ now (out .exit) ≡ headerBytes (route .destination) (route .source) som eom sequence (route .to) (route .tag) ++ drop 4 (now (out .entry)) ⌝ }
 {
-    out[0] = 1;
+    out[0] = VERSION;
     out[1] = route.destination;
     out[2] = route.source;
     out[3] = bit(som, 128)
@@ -139,6 +171,6 @@ pub fn write_packet(unit: usize, route: Route, message: &[u8], k: usize, out: &m
     let n = smaller(left, unit);
     write_header(route, k == 0, left <= unit, k, out);
     let end = at + n;
-    lent::put(out, 4, &message[at..end]);
-    4 + n
+    lent::put(out, HEADER_SIZE, &message[at..end]);
+    HEADER_SIZE + n
 }

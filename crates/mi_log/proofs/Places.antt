@@ -13,8 +13,8 @@ use lib.Seq.{take-suc, drop-cons, set-at, getD-append-add, getD-drop, drop-drop,
 use Rattle.lent.specs.Bytes.{put}
 use Rattle.lent.proofs.Stores.{rest}
 use Rattle.lent.proofs.Choice.{if-ind, false-true}
-use Rattle.records.specs.Records.{head-size, line-room, headed}
-use Rattle.records.specs.declared.Head.{Head}
+use Rattle.log_records.specs.Records.{head-size, line-room, headed}
+use Rattle.log_records.specs.declared.Head.{Head}
 use Rattle.log.specs.Log.{Recorded, Told}
 use Rattle.log.specs.Whole.{bad-line, lastLine}
 use Rattle.log.specs.declared.Session.{Session}

@@ -9,11 +9,11 @@ use lib.ListN.{length, take, drop, replicate, length-append, length-take, length
 use lib.Seq.{take-at, take-append-le, drop-append-le}
 use Rattle.lent.specs.Bytes.{put}
 use Rattle.lent.proofs.Choice.{if-ind, false-true, and-both}
-use Rattle.records.specs.Records.{headed}
-use Rattle.records.specs.declared.Head.{Head}
-use Rattle.records.specs.declared.Head.the-variants.{Bad, More, Record}
-use Rattle.records.proofs.Heads.{Whole, whole, decided}
-use Rattle.log.specs.Log.{begun, Recorded, recorded}
+use Rattle.log_records.specs.Records.{headed}
+use Rattle.log_records.specs.declared.Head.{Head}
+use Rattle.log_records.specs.declared.Head.the-variants.{Bad, More, Record}
+use Rattle.log_records.proofs.Heads.{Whole, whole, decided}
+use Rattle.log.specs.Log.{atStart, Recorded, recorded}
 use Rattle.log.specs.Whole.{bad-line, lastLine, goingOn, byHead, owed, logged}
 use Rattle.log.specs.declared.Session.{Session}
 use Rattle.log.proofs.Whole.{owed-by}
@@ -175,7 +175,7 @@ logs-all i w h r off =
 pub ran-as : {g h : Held} → g ≡ h → Ran h → Ran g
 ran-as e r = rw e r
 
-pub ran-start : (s : Session) (out a b : List ℕ) → s ≡ begun → a ≡ replicate store-size 0 → b ≡ replicate store-size 0
+pub ran-start : (s : Session) (out a b : List ℕ) → s ≡ atStart → a ≡ replicate store-size 0 → b ≡ replicate store-size 0
     → Ran (held (runOf 0 0 0 false false true s) [] out a b)
 ran-start s out a b e f g = rw (e, f, g) (record { input = []; written = []; whole = true; reached = start out })
 

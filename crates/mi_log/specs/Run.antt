@@ -8,9 +8,9 @@ use lib.Dec.{eqb, ltb}
 use lib.ListN.{length, take, drop}
 use Rattle.lent.specs.Bytes.{put as Bytes·put}
 use Rattle.lent.specs.Choice.{if_then_else_}
-use Rattle.records.specs.Records.{head-size, headed, line-room}
-use Rattle.records.specs.declared.Head.{Head}
-use Rattle.records.specs.declared.Head.the-variants.{Bad, More, Record}
+use Rattle.log_records.specs.Records.{head-size, headed, line-room}
+use Rattle.log_records.specs.declared.Head.{Head}
+use Rattle.log_records.specs.declared.Head.the-variants.{Bad, More, Record}
 use Rattle.log.specs.Log.{Recorded, recorded}
 use Rattle.log.specs.Whole.{bad-line, lastLine}
 use Rattle.log.specs.declared.Session.{Session}

@@ -7,7 +7,7 @@ use mathlib.Core.List.{List, [], _++_}
 use lib.ListN.{length, take, replicate}
 use Rattle.lent.specs.Choice.{if_then_else_}
 use Rattle.machine.specs.Wire.{store-size}
-use Rattle.log.specs.Log.{begun}
+use Rattle.log.specs.Log.{atStart}
 use Rattle.log.specs.Whole.{owed, logged}
 use Rattle.mi_log.specs.Run.{Held, held, runOf, turned, refilled, isFull, flushed}
 
@@ -37,7 +37,7 @@ TurnMoves = (h : Held) → turned h .run .on ≡ true → turned h .run .more �
 -- where turns, reads and writes lead: what was read, what was written, whether every write was whole, and what the program then has
 pub data Reached : List ℕ → List ℕ → Bool → Held → Type 0 where
   -- nothing is read, and the stores are zeros
-  start : (out : List ℕ) → Reached [] [] true (held (runOf 0 0 0 false false true begun) [] out (replicate store-size 0) (replicate store-size 0))
+  start : (out : List ℕ) → Reached [] [] true (held (runOf 0 0 0 false false true atStart) [] out (replicate store-size 0) (replicate store-size 0))
   turn : {i w : List ℕ} {whole : Bool} {h : Held} → h .run .on ≡ true → Reached i w whole h → Reached i w whole (turned h)
   -- the piece that a read gave
   read : {i w : List ℕ} {whole : Bool} {h : Held} → h .run .more ≡ true → (piece : List ℕ) → Reached i w whole h

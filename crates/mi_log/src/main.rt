@@ -5,7 +5,7 @@ ghost use mathlib.Core.Bool.{true};
 ghost use mathlib.Core.List.{List, _++_};
 ghost use Prim.Native.Nat.{ℕ, _+_, _≤_};
 ghost use lib.ListN.{length, take, drop, replicate};
-ghost use Rattle.records.specs.Records.{line-room, isRecord};
+ghost use Rattle.log_records.specs.Records.{head-size, line-room, isRecord};
 ghost use Rattle.machine.specs.Wire.{store-size};
 ghost use Rattle.machine.specs.Valid.{Valid};
 ghost use Rattle.log.specs.Log.{recorded};
@@ -14,10 +14,10 @@ ghost use Rattle.mi_log.specs.Run.{unread, held, afterRecord, over, miss
 ghost use Rattle.mi_log.specs.Whole.{Ran};
 use log::Answer;
 use log::Session;
-use records::Head;
-
-// Room for every line.
-const LINE_ROOM: usize = 139;
+use log_records::HEAD_SIZE;
+use log_records::Head;
+use log_records::LINE_ROOM;
+use machine::sizes::STORE_SIZE;
 
 // Where the unread input stands in its buffer, how much of the output buffer is filled, whether the input has ended, whether more input is
 // wanted before the next turn, whether there is more to do, and the session.
@@ -141,14 +141,22 @@ fn one(
     tag: u8,
     n: usize,
 ) -> Run
-    requires { ⌜ Roomy r (r .end) (length (now out)) × (isRecord tag n ≡ true) × (3 + n ≤ length (now input)) × (r .at + length (now input) ≡ r .end) ⌝ }
-    ensures { λ q. ⌜ held q (drop (3 + n) (now (input .entry))) (now (out .exit)) (now (store0 .exit)) (now (store1 .exit)) ≡ afterRecord (held r (now (input .entry)) (now (out .entry)) (now (store0 .entry)) (now (store1 .entry))) n (recorded (r .session) (now (store0 .entry)) (now (store1 .entry)) tag (take n (drop 3 (now (input .entry))))) ⌝ }
+    requires { ⌜ Roomy r (r .end) (length (now out)) × (isRecord tag n ≡ true) × (head-size + n ≤ length (now input)) × (r .at + length (now input) ≡ r .end) ⌝ }
+    ensures { λ q. ⌜ held q (drop (head-size + n) (now (input .entry))) (now (out .exit)) (now (store0 .exit)) (now (store1 .exit)) ≡ afterRecord (held r (now (input .entry)) (now (out .entry)) (now (store0 .entry)) (now (store1 .entry))) n (recorded (r .session) (now (store0 .entry)) (now (store1 .entry)) tag (take n (drop head-size (now (input .entry))))) ⌝ }
     ensures { λ q. ⌜ Within q (r .end) (length (now (out .exit))) ⌝ }
 {
-    let to = 3 + n;
+    let to = HEAD_SIZE + n;
     let put = r.put;
     let session = r.session;
-    let answer = printed(out, put, store0, store1, session, tag, &input[3..to]);
+    let answer = printed(
+        out,
+        put,
+        store0,
+        store1,
+        session,
+        tag,
+        &input[HEAD_SIZE..to],
+    );
     let next = answer.session;
     Run {
         at: r.at + to,
@@ -167,7 +175,7 @@ fn turn(buf: &[u8], out: &mut [u8], store0: &mut [u8], store1: &mut [u8], r: Run
     let at = r.at;
     let end = r.end;
     let input = &buf[at..end];
-    let head = records::read_head(input);
+    let head = log_records::read_head(input);
     match head {
         Head::Bad => bad(out, r),
         Head::More => missing(input, out, r),
@@ -205,8 +213,8 @@ fn all(buf: &mut [u8], out: &mut [u8], store0: &mut [u8], store1: &mut [u8]) -> 
 fn main() {
     let mut buf = io::large_buffer();
     let mut out = io::large_buffer();
-    let mut store0 = [0u8; 4224];
-    let mut store1 = [0u8; 4224];
+    let mut store0 = [0u8; STORE_SIZE];
+    let mut store1 = [0u8; STORE_SIZE];
     let r = all(&mut buf, &mut out, &mut store0, &mut store1);
     let put = r.put;
     io::write_all(1, &out[..put]);

@@ -15,6 +15,14 @@ use Rattle.nvme_mi.specs.declared.Fault.the-variants.{NoFault, Parameter
 abbrev pub message-type : ℕ
 message-type = 0x84
 
+-- the shortest message
+abbrev pub smallest : ℕ
+smallest = 8
+
+-- a control request, header to check
+abbrev pub control-size : ℕ
+control-size = 12
+
 abbrev pub messageHeader : List ℕ → MessageHeader
 messageHeader message =
     record {

@@ -24,7 +24,43 @@ pub enum Fault {
 }
 
 // Byte 0 of a message: IC 1, message type 4.
-const MESSAGE_TYPE: u8 = 0x84;
+pub const MESSAGE_TYPE: u8 = 0x84;
+
+// The bytes in front of a message's body, and those of its check.
+const HEADER_SIZE: usize = 4;
+
+const CHECK_SIZE: usize = 4;
+
+// The shortest message: header and check.
+pub const SMALLEST: usize = HEADER_SIZE + CHECK_SIZE;
+
+// A control request or reply, header to check.
+pub const CONTROL_SIZE: usize = 12;
+
+// NMIMT.
+pub const CONTROL: u8 = 0;
+
+const MI_COMMAND: u8 = 1;
+
+const ADMIN_COMMAND: u8 = 2;
+
+const PCIE_COMMAND: u8 = 4;
+
+// The shortest command of each kind, with its check.
+const SHORTEST_MI: usize = 20;
+
+const SHORTEST_ADMIN: usize = 72;
+
+const SHORTEST_PCIE: usize = 24;
+
+// Opcodes of control primitives. There is none above Get State.
+pub const PAUSE: u8 = 0;
+
+pub const RESUME: u8 = 1;
+
+pub const ABORT: u8 = 2;
+
+pub const GET_STATE: u8 = 3;
 
 // Status codes of a response.
 const SUCCESS: u8 = 0x00;
@@ -55,20 +91,20 @@ pub fn read_message_header(message: &[u8]) -> MessageHeader
 fn is_known(nmimt: u8) -> bool
     ensures { λ r. ⌜ r ≡ isKnown nmimt ⌝ }
 {
-    nmimt == 1 || nmimt == 2 || nmimt == 4
+    nmimt == MI_COMMAND || nmimt == ADMIN_COMMAND || nmimt == PCIE_COMMAND
 }
 
 // The bytes of the shortest command of a known kind, with its check.
 fn shortest_size(nmimt: u8) -> usize
     ensures { λ r. ⌜ r ≡ shortest nmimt ⌝ }
 {
-    if nmimt == 1 {
-        return 20;
+    if nmimt == MI_COMMAND {
+        return SHORTEST_MI;
     }
-    if nmimt == 2 {
-        return 72;
+    if nmimt == ADMIN_COMMAND {
+        return SHORTEST_ADMIN;
     }
-    24
+    SHORTEST_PCIE
 }
 
 // The tests of a command of n bytes, at its entry into Process.
@@ -97,7 +133,7 @@ pub fn control_fault(header: MessageHeader, opcode: u8) -> Fault
     if header.ciap {
         return Fault::Parameter(2, 1);
     }
-    if opcode > 3 {
+    if opcode > GET_STATE {
         return Fault::Failure(INVALID_OPCODE);
     }
     Fault::NoFault
@@ -122,10 +158,10 @@ fn word_at(s: &[u8], n: usize) -> u32
 pub fn check_right(message: &[u8]) -> bool
     ensures { λ r. ⌜ r ≡ checkRight (now (message .entry)) ⌝ }
 {
-    if message.len() < 4 {
+    if message.len() < CHECK_SIZE {
         return false;
     }
-    let n = message.len() - 4;
+    let n = message.len() - CHECK_SIZE;
     word_at(message, n) == crc32c::crc32c(&message[..n])
 }
 
@@ -150,8 +186,8 @@ pub fn write_response(store: &mut [u8], nmimt: u8, csi: u8, body: &[u8])
     store[1] = 128 + nmimt % 16 * 8 + csi % 2;
     store[2] = 0;
     store[3] = 0;
-    lent::put(store, 4, body);
-    write_check(store, body.len() + 4);
+    lent::put(store, HEADER_SIZE, body);
+    write_check(store, body.len() + HEADER_SIZE);
 }
 
 // The four body bytes of an error response.
@@ -173,10 +209,10 @@ pub fn success_body(tag: u8, cpsr: u16) -> [u8; 4]
 }
 
 // A control reply of twelve bytes: NMIMT 0, the request's slot, a body of four bytes.
-pub fn control_reply(csi: u8, body: [u8; 4]) -> [u8; 12]
+pub fn control_reply(csi: u8, body: [u8; 4]) -> [u8; CONTROL_SIZE]
     ensures { λ r. ⌜ r ≡ response 0 csi body ⌝ }
 {
-    let mut reply = [0u8; 12];
-    write_response(&mut reply, 0, csi, &body);
+    let mut reply = [0u8; CONTROL_SIZE];
+    write_response(&mut reply, CONTROL, csi, &body);
     reply
 }

@@ -10,15 +10,11 @@ ghost use Rattle.machine.specs.Wire.{store-size};
 ghost use Rattle.machine.specs.Control.{pausedSlot, pause as Control·pause};
 use machine::Done;
 use machine::Endpoint;
+use machine::Outgoing;
 use machine::Phase;
 use machine::Response;
 use machine::Slot;
-
-// The largest payload of a packet.
-pub const UNIT: usize = 64;
-
-// The length of a slot's store, and of the longest message.
-pub const STORE_SIZE: usize = 4224;
+use machine::sizes::STORE_SIZE;
 
 // One of the lent stores, of n0 and n1 bytes, has another length.
 pub fn wrong_stores(n0: usize, n1: usize) -> bool
@@ -98,7 +94,7 @@ pub fn settled(paused: bool, response: Response) -> Phase
     if paused {
         Phase::Answered(response)
     } else {
-        Phase::Transmit(response)
+        Phase::Transmit(Outgoing { response, sent: 0 })
     }
 }
 

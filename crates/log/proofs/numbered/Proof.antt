@@ -1,7 +1,7 @@
 -- `log::numbered` meets its contract: the line is the number's, and the session has the state.
 -- Assumes nothing.
 use borrow.Author.Needs.{needs}
-use Rattle.records.specs.Records.{numberLine}
+use Rattle.log_records.specs.Records.{numberLine}
 use Rattle.log.proofs.Told.{told-by}
 use Rattle.log.proofs.numbered.Statement.{statement}
 use Rattle.log.proofs.numbered.Tie as tie

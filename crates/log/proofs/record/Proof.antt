@@ -4,7 +4,7 @@ use borrow.Author.Needs.{needs}
 use borrow.Author.Tests.{eq-eqb, ne-eqb}
 use Rattle.lent.proofs.Stores.{rest}
 use Rattle.log.specs.Log.{recorded}
-use Rattle.records.proofs.Laws.{has-slot}
+use Rattle.log_records.proofs.Laws.{has-slot}
 use Rattle.log.proofs.record.Statement.{statement}
 use Rattle.log.proofs.record.Tie as tie
 

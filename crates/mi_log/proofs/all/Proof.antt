@@ -7,7 +7,7 @@ use native.Mathlib.Omega.{arith}
 use native.Mathlib.Nat.{le-refl}
 use lib.ListN.{length}
 use borrow.Author.Needs.{needs}
-use Rattle.records.specs.Records.{line-room}
+use Rattle.log_records.specs.Records.{line-room}
 use Rattle.mi_log.specs.Run.{Held, held, unread, Within}
 use Rattle.mi_log.specs.Whole.{Ran}
 use Rattle.mi_log.proofs.Places.{within-as, input-is, refilled-within, flushed-within, flushed-unread}

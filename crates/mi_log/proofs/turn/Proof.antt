@@ -6,8 +6,8 @@ use native.Mathlib.Omega.{arith}
 use lib.ListN.{length-take, length-drop}
 use borrow.Author.Needs.{needs}
 use Rattle.log.specs.Whole.{bad-line}
-use Rattle.records.proofs.Heads.{whole}
-use Rattle.records.specs.declared.Head.the-variants.{Bad, More, Record}
+use Rattle.log_records.proofs.Heads.{whole}
+use Rattle.log_records.specs.declared.Head.the-variants.{Bad, More, Record}
 use Rattle.mi_log.specs.Run.{Held, held, unread}
 use Rattle.mi_log.proofs.Places.{by-head, input-is, roomy-end, within-as, over-within, missed-within, missed-unread, unread-behind}
 use Rattle.mi_log.proofs.turn.Statement.{statement}

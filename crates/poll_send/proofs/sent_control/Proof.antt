@@ -1,0 +1,15 @@
+-- `poll_send::sent_control` meets its contract: the packet is what `write_packet` writes, by the route that `route_to` gives.
+-- Assumes nothing.
+use borrow.Author.Needs.{needs}
+use Rattle.machine.specs.Poll.{sentControl}
+use Rattle.poll_send.proofs.sent_control.Statement.{statement}
+use Rattle.poll_send.proofs.sent_control.Tie as tie
+
+returns : tie.Need-returns
+unfolding sentControl
+returns c =
+    let w = c .before .before .before .before in
+    rw (w .write-packet .ensures .1, w .write-packet .ensures .0, w .before .before .before .before .route-to .ensures)
+
+pub sent-control-spec : {M : Type 1} → statement M
+sent-control-spec = tie.close (tie.spec (λ c κs. search needs) (λ c. search needs) (λ c κs. search needs) (λ c. search needs) returns)

@@ -1,0 +1,58 @@
+-- `receive_control::controlled` meets its contract: an error reply where a test failed, else the reply of the primitive. Bit 0 of CPSP is what is
+-- left of its byte, since a division by 1 changes nothing.
+-- Assumes nothing.
+use Prim.Native.Nat.{ℕ}
+use mathlib.Core.Path.{_≡_, refl, sym}
+use mathlib.Core.List.{List, [], _∷_}
+use native.Mathlib.Nat.{div-one}
+use types.Run.{OneOf, miss}
+use denote.Enum.Declared.{tagOf}
+use borrow.Author.Needs.{needs}
+use Rattle.mctp.specs.declared.Header.{Header}
+use Rattle.nvme_mi.specs.Response.{faultBody}
+use Rattle.nvme_mi.specs.declared.Fault.{Fault}
+use Rattle.nvme_mi.specs.declared.Fault.the-variants.{NoFault, Parameter, Failure}
+use Rattle.nvme_mi.proofs.Fault.{the-type}
+use Rattle.machine.specs.Control.{replied, controlledBy, controlled}
+use Rattle.machine.specs.declared.Endpoint.{Endpoint}
+use Rattle.receive_control.proofs.controlled.Statement.{statement}
+use Rattle.receive_control.proofs.controlled.Tie as tie
+
+-- a fault's reply
+faulted : (e : Endpoint) (h : Header) (csi : ℕ) (m : List ℕ) (f : Fault) → OneOf (1 ∷ 2 ∷ []) (tagOf the-type f)
+    → controlledBy e h csi m f ≡ replied e h csi (faultBody f)
+faulted e h csi m NoFault k = absurd (miss (1 ∷ 2 ∷ []) 0 tt k)
+faulted e h csi m (Parameter byte bit) k = refl
+faulted e h csi m (Failure status) k = refl
+
+returns : tie.Need-returns
+unfolding controlled
+returns c =
+    let m = c .before .before in
+    let k = m .before in
+    let a = k .before .before .before .args in
+    rw (c .replied .ensures, c .before .fault-body .ensures, ← k .control-fault .ensures)
+    (sym (faulted (a .endpoint) (a .header) (a .message-header .csi) (a .message .now) (k .control-fault .result) (m .match .keys2)))
+
+returns-2 : tie.Need-returns-2
+unfolding controlled
+returns-2 c =
+    let b = c .before .before in
+    let p = b .before .before in
+    let t = p .before .before in
+    let k = t .before .before in
+    rw (
+      c .replied2 .ensures,
+      b .success-body .ensures,
+      p .primitive .ensures,
+      ← k .control-fault .ensures,
+      t .enum-told .given .1,
+      div-one,
+    )
+
+pub controlled-spec : {M : Type 1} → statement M
+controlled-spec =
+    tie.close
+    (tie.spec (λ c. search needs) (λ c κs. search needs) (λ c. search needs) (λ c κs. search needs) (λ c κs. search needs) returns
+    (λ c. search needs) (λ c. search needs) (λ c κs. search needs) (λ c. search needs) (λ c κs. search needs) (λ c κs. search needs)
+    returns-2)

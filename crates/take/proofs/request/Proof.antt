@@ -1,0 +1,50 @@
+-- `take::request` meets its contract: no part where a test of `part` fails, else what `part_of` gives, whose premises the invariant
+-- meets.
+-- Assumes nothing.
+use mathlib.Core.Path.{_≡_, sym, _∙_}
+use mathlib.Core.Bool.{false}
+use mathlib.Core.Logic.{⊎-elim}
+use native.Mathlib.Omega.{arith}
+use borrow.Author.Tests.{leb-true, leb-false, lt-ltb, le-ltb}
+use borrow.Author.Needs.{needs}
+use Rattle.machine.specs.State.{world}
+use Rattle.machine.specs.Wire.{wrongStores}
+use Rattle.machine.specs.Finish.{part}
+use Rattle.machine.proofs.Slots.{facts-at}
+use Rattle.machine.proofs.Keeps.{sound-of, store-at}
+use Rattle.take.proofs.request.Statement.{statement}
+use Rattle.take.proofs.request.Tie as tie
+
+returns : tie.Need-returns
+unfolding part
+returns c =
+    let w = c .before .before in
+    ⊎-elim (λ wrong. rw (← w .wrong-stores .ensures, wrong .taken))
+    (λ above. rw (← w .wrong-stores .ensures, above .0 .left, le-ltb _ _ (leb-true _ _ (above .1 .taken))))
+    (c .before .if1 .came)
+
+part-of-requires : tie.Need-part-of-requires
+part-of-requires c κs =
+    let d = c .before .before in
+    let k = d .before .before in
+    let s = k .before .before .before in
+    let a = s .args in
+    let w = world (a .t1) (a .store0 .now) (a .store1 .now) in
+    let right : wrongStores w ≡ false = sym (k .wrong-stores .ensures) ∙ d .before .if1 .left in
+    let size = store-at (a .slot) (sound-of w right (s .pre)) in
+    (rw (c .before .store-of .ensures) size, facts-at (a .slot) (omega (arith, leb-false)) (s .pre))
+
+returns-2 : tie.Need-returns-2
+unfolding part
+returns-2 c =
+    let o = c .before .before in
+    let d = o .before in
+    let k = d .before .before in
+    rw (← k .wrong-stores .ensures, d .before .if1 .left, lt-ltb _ _ (leb-false _ _ (d .if2 .left)), ← o .store-of .ensures)
+    (c .part-of .ensures)
+
+pub request-spec : {M : Type 1} → statement M
+request-spec =
+    tie.close
+    (tie.spec (λ c κs. search needs) (λ c. search needs) returns (λ c κs. search needs) (λ c. search needs) (λ c. search needs)
+    part-of-requires returns-2)

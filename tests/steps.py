@@ -1,0 +1,55 @@
+"""Describes stored logs. A step of a log is records, and the lines that they have to print.
+
+The lines are written by hand from the document. Packets and responses are put together here and not
+by the second program, so that the two can disagree; only the integrity check is shared.
+"""
+from records import FULL, POLL, ask, command, packet, packets
+from second.wire import GET_STATE, MI, sealed
+
+class Logs(dict):
+    """The logs of a folder: a name, and its records and lines."""
+
+    def log(self, name, *steps):
+        """A step is (records, expected lines); one record or line may stand without a list."""
+        if name in self:
+            raise ValueError(f"two logs have the name {name}")
+        records, lines = [], []
+        for given, printed in steps:
+            records += [given] if isinstance(given, bytes) else given
+            lines += printed if isinstance(printed, list) else [printed]
+        self[name] = records, [str(line) for line in lines]
+
+# Records that many logs use
+MI_COMMAND = packet(command())
+OTHER = packet(command(slot=1), tag=3)                # an MI command for slot 1
+BODY = bytes((0, 7, 8, 9))
+
+def start(slot=0, tag=1, **fields):
+    """The first of two packets of a command; the slot is then in Receive."""
+    return packets(command(100, slot, **fields), tag=tag)[0]
+
+# What a poll prints
+def sent(payload, som=1, eom=1, sequence=0, to=9, tag=1):
+    marks = som << 7 | eom << 6 | (sequence & 3) << 4 | tag
+    return "1 " + (bytes((1, to, 8, marks)) + payload).hex()
+
+def response(body, slot=0, kind=MI):
+    return sealed(bytes((0x84, 0x80 | kind << 3 | slot, 0, 0)) + body)
+
+def answered(*body, slot=0, kind=MI, tag=1):
+    """The one packet of a short response."""
+    return sent(response(bytes(body), slot, kind), tag=tag)
+
+def replied(cpsr, slot=0, to=9, tag=2):
+    """The reply to a control primitive of `ask`."""
+    body = bytes((0, 0x5A)) + cpsr.to_bytes(2, "little")
+    return sent(response(body, slot, 0), to=to, tag=tag)
+
+def shows(word, slot=0):
+    """A Get State that clears nothing, and its reply."""
+    return [ask(GET_STATE, slot), POLL], [2, replied(word, slot)]
+
+def cut(message, tag=1):
+    """The lines of the polls that send a whole message."""
+    parts = [message[at:at + FULL] for at in range(0, len(message), FULL)]
+    return [sent(part, i == 0, i == len(parts) - 1, i, tag=tag) for i, part in enumerate(parts)]
