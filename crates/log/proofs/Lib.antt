@@ -1,3 +1,2 @@
-pub mod Polls
 pub mod Told
 pub mod Whole

@@ -4,7 +4,7 @@ use borrow.Author.Needs.{needs}
 use native.Mathlib.Omega.{arith}
 use lib.ListN.{replicate}
 use Rattle.machine.specs.State.{world}
-use Rattle.log.proofs.Polls.{packet-fits}
+use Rattle.poll.proofs.Fits.{packet-fits}
 use Rattle.log.proofs.Told.{told-by}
 use Rattle.log.specs.Log.{pollLine}
 use Rattle.log.proofs.poll_record.Statement.{statement}

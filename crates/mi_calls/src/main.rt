@@ -1,0 +1,204 @@
+// The calls program: reads records on standard input, each a call with all its arguments, and prints a line for each. Each line is
+// written before the next record is read, so that a pipe can be used live. The contracts keep the state's invariant; what is printed is compared
+// with the second program.
+mod line;
+mod look;
+mod record;
+mod words;
+
+ghost use mathlib.Core.Path.{_≡_};
+ghost use Prim.Native.Nat.{_+_, _≤_};
+ghost use lib.ListN.{length};
+ghost use Rattle.machine.specs.Valid.{Valid};
+ghost use Rattle.mi_calls.specs.Sizes.{leastSize};
+use line::say;
+use machine::Endpoint;
+use machine::sizes::STORE_SIZE;
+use record::STORES;
+use record::called;
+use record::is_record;
+use words::half;
+
+// Tag and length.
+const HEAD_SIZE: usize = 3;
+
+// The memory of a store, whose front is lent.
+const MEMORY: usize = 4300;
+
+// The endpoint's EID at the start.
+const EID: u8 = 8;
+
+// What was read: how many bytes, and whether a read failed.
+struct Got {
+    count: usize,
+    failed: bool,
+}
+
+// Reads once, behind the first bytes.
+fn read_behind(buf: &mut [u8], at: usize) -> Got
+    requires { ⌜ at ≤ length (now buf) ⌝ }
+    ensures { λ r. ⌜ at + r .count ≤ length (now (buf .exit)) ⌝ }
+{
+    let t = &mut buf[at..];
+    let got = libc::read(libc::STDIN_FILENO, t);
+    let count = io::count(got, t);
+    Got {
+        count,
+        failed: got < 0,
+    }
+}
+
+// Reads until the bytes are all there, the input ends, or a read fails.
+fn filled(buf: &mut [u8]) -> Got
+    ensures { λ r. ⌜ r .count ≤ length (now (buf .exit)) ⌝ }
+{
+    let mut at = 0;
+    while at < buf.len() {
+        let one = read_behind(buf, at);
+        if one.count == 0 {
+            return Got {
+                count: at,
+                failed: one.failed,
+            };
+        }
+        at += one.count;
+    }
+    Got {
+        count: at,
+        failed: false,
+    }
+}
+
+// The endpoint, how much of each store's memory is lent, and whether there is more to do.
+struct Session {
+    endpoint: Endpoint,
+    length0: usize,
+    length1: usize,
+    on: bool,
+}
+
+// Tells that a read or a write failed.
+fn tell(what: &[u8]) {
+    io::write_all(libc::STDERR_FILENO, what);
+}
+
+// What ends the program where a record is wanted: a read that failed is told, and a record that is none prints `bad`.
+fn broken(failed: bool) {
+    if failed {
+        tell(b"mi_calls: standard input can not be read\n");
+    } else {
+        say(true, b"bad\n");
+    }
+}
+
+// The end of a line; a line that could not be written is told.
+fn line_end(on: bool) -> bool {
+    let whole = say(on, b"\n");
+    if !whole {
+        tell(b"mi_calls: standard output can not be written\n");
+    }
+    whole
+}
+
+// The lent lengths from here on. One above the memory's, of which there are m0 and m1 bytes, is `bad`.
+fn lent_anew(session: Session, m0: usize, m1: usize, body: &[u8]) -> Session
+    requires { ⌜ Valid (session .endpoint) × (session .length0 ≤ m0) × (session .length1 ≤ m1) × (4 ≤ length (now body)) ⌝ }
+    ensures { λ r. ⌜ Valid (r .endpoint) × (r .length0 ≤ m0) × (r .length1 ≤ m1) ⌝ }
+{
+    let length0 = half(body, 0);
+    let length1 = half(body, 2);
+    if length0 > m0 || length1 > m1 {
+        broken(false);
+        return Session {
+            on: false,
+            ..session
+        };
+    }
+    Session {
+        length0,
+        length1,
+        on: line_end(say(true, b"0")),
+        ..session
+    }
+}
+
+// Does what a whole record says, and writes its line.
+fn recorded(session: Session, store0: &mut [u8], store1: &mut [u8], tag: u8, body: &[u8]) -> Session
+    requires { ⌜ Valid (session .endpoint) × (session .length0 ≤ length (now store0)) × (session .length1 ≤ length (now store1)) × (leastSize tag ≤ length (now body)) ⌝ }
+    ensures { λ r. ⌜ Valid (r .endpoint) × (r .length0 ≤ length (now (store0 .exit))) × (r .length1 ≤ length (now (store1 .exit))) ⌝ }
+{
+    if tag == STORES {
+        return lent_anew(session, store0.len(), store1.len(), body);
+    }
+    let n0 = session.length0;
+    let n1 = session.length1;
+    let lent0 = &mut store0[..n0];
+    let lent1 = &mut store1[..n1];
+    let step = called(session.endpoint, lent0, lent1, tag, body);
+    let endpoint = step.endpoint;
+    Session {
+        endpoint,
+        on: line_end(step.on),
+        ..session
+    }
+}
+
+// Reads the rest of a record, and does what it says.
+fn one(session: Session, store0: &mut [u8], store1: &mut [u8], tag: u8, body: &mut [u8]) -> Session
+    requires { ⌜ Valid (session .endpoint) × (session .length0 ≤ length (now store0)) × (session .length1 ≤ length (now store1)) × (leastSize tag ≤ length (now body)) ⌝ }
+    ensures { λ r. ⌜ Valid (r .endpoint) × (r .length0 ≤ length (now (store0 .exit))) × (r .length1 ≤ length (now (store1 .exit))) ⌝ }
+{
+    let got = filled(body);
+    if got.count < body.len() {
+        broken(got.failed);
+        return Session {
+            on: false,
+            ..session
+        };
+    }
+    recorded(session, store0, store1, tag, body)
+}
+
+// One record. The end of the input between records is silent.
+fn turn(session: Session, store0: &mut [u8], store1: &mut [u8]) -> Session
+    requires { ⌜ Valid (session .endpoint) × (session .length0 ≤ length (now store0)) × (session .length1 ≤ length (now store1)) ⌝ }
+    ensures { λ r. ⌜ Valid (r .endpoint) × (r .length0 ≤ length (now (store0 .exit))) × (r .length1 ≤ length (now (store1 .exit))) ⌝ }
+{
+    let mut head = [0u8; HEAD_SIZE];
+    let mut space = io::large_buffer();
+    let got = filled(&mut head);
+    let tag = head[0];
+    let n = half(&head, 1);
+    if got.count == 0 && !got.failed {
+        return Session {
+            on: false,
+            ..session
+        };
+    }
+    if got.count < HEAD_SIZE || !is_record(tag, n) {
+        broken(got.failed);
+        return Session {
+            on: false,
+            ..session
+        };
+    }
+    one(session, store0, store1, tag, &mut space[..n])
+}
+
+fn main() {
+    let mut store0 = [0u8; MEMORY];
+    let mut store1 = [0u8; MEMORY];
+    let started = endpoint::setup(EID);
+    let endpoint = started.endpoint;
+    let mut session = Session {
+        endpoint,
+        length0: STORE_SIZE,
+        length1: STORE_SIZE,
+        on: true,
+    };
+    let mut turns = u64::MAX;
+    while turns > 0 && session.on {
+        session = turn(session, &mut store0, &mut store1);
+        turns -= 1;
+    }
+}

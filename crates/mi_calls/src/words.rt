@@ -1,0 +1,25 @@
+// Numbers of a record, low byte first.
+ghost use Prim.Native.Nat.{_+_, _≤_, _<_};
+ghost use lib.ListN.{length};
+
+fn wide(b: u8) -> usize
+    ensures { λ r. ⌜ r < 256 ⌝ }
+{
+    b as usize
+}
+
+// The number of two bytes.
+pub fn half(bytes: &[u8], at: usize) -> usize
+    requires { ⌜ at + 2 ≤ length (now bytes) ⌝ }
+    ensures { λ r. ⌜ r < 65536 ⌝ }
+{
+    wide(bytes[at]) + wide(bytes[at + 1]) * 256
+}
+
+// The number of four bytes.
+pub fn word(bytes: &[u8], at: usize) -> usize
+    requires { ⌜ at + 4 ≤ length (now bytes) ⌝ }
+    ensures { λ r. ⌜ r < 4294967296 ⌝ }
+{
+    half(bytes, at) + half(bytes, at + 2) * 65536
+}
