@@ -2,24 +2,25 @@
 -- Assumes nothing.
 use Prim.Native.Nat.{ℕ, zero, suc, _+_, _-_, _≤_, _<_}
 use mathlib.Core.Path.{_≡_, refl, ap, sym, _∙_}
-use mathlib.Core.Bool.{Bool, true, false}
+use mathlib.Core.Bool.{Bool, true, false, _&&_}
 use mathlib.Core.List.{List, [], _∷_, _++_, append-assoc, append-nil}
 use native.Mathlib.Omega.{arith}
 use native.Mathlib.Nat.{zero-add, le-refl, le-trans}
 use native.Mathlib.Numerals.{add-one}
 use lib.Dec.{eqb}
+use borrow.Author.Tests.{lt-ltb, le-ltb}
 use lib.ListN.{length, take, drop, getD, set, length-take, length-drop, take-append-drop, drop-of-length-le}
 use lib.Seq.{take-suc, drop-cons, set-at, getD-append-add, getD-drop, drop-drop, take-nil, take-add, take-at, drop-at, length-take-le}
 use Rattle.lent.specs.Bytes.{put}
 use Rattle.lent.proofs.Stores.{rest}
-use Rattle.lent.proofs.Choice.{if-ind, false-true}
+use Rattle.lent.proofs.Choice.{if-ind, false-true, and-both}
 use Rattle.log_records.specs.Records.{head-size, line-room, headed}
 use Rattle.log_records.specs.declared.Head.{Head}
 use Rattle.log.specs.Log.{Recorded, Told}
 use Rattle.log.specs.Whole.{bad-line, lastLine}
 use Rattle.log.specs.declared.Session.{Session}
 use Rattle.log.specs.declared.Answer.{Answer}
-use Rattle.mi_log.specs.Run.{Held, held, runOf, unread, over, asking, missed, afterRecord, turnedBy, turned, refilled, isFull, flushed, Within, Roomy, Printed, printedTo, printedAt, Refilled}
+use Rattle.mi_log.specs.Run.{Held, held, runOf, unread, over, asking, missed, afterRecord, turnedBy, turned, isAsking, refilled, mustWrite, flushed, Within, Roomy, Printed, printedTo, printedAt, Refilled}
 use Rattle.mi_log.specs.declared.Run.{Run}
 
 -- ---- bytes moved to the front
@@ -59,28 +60,35 @@ drop-take (suc m) (suc k) [] = sym (take-nil (suc k - suc m))
 drop-take (suc m) (suc k) (a ∷ l) = let e : suc k - suc m ≡ k - m = omega arith in rw e (drop-take m k l)
 
 -- a read put k bytes behind what was unread
-pub read-in : (r : Run) (buf now read : List ℕ) (k : ℕ) → r .more ≡ true → r .at ≤ r .end → r .end ≤ length buf
-    → now ≡ shifted buf (r .at) (r .end - r .at) → k ≤ length read
-    → Refilled r (runOf 0 (r .end - r .at + k) (r .put) (eqb k 0) false (r .on) (r .session)) buf (take (r .end - r .at) now ++ read)
-read-in r buf now read k more first last e small =
-    record { piece = take k read; left = λ out a b. rw (more, length-take-le k read small, none, both) refl }
-  where
-    n : ℕ
-    n = r .end - r .at
+module _ (r : Run) (buf now read : List ℕ) (asks : (r .on && r .more) ≡ true) (first : r .at ≤ r .end) (last : r .end ≤ length buf)
+    (moved : now ≡ shifted buf (r .at) (r .end - r .at)) where
+  abbrev n : ℕ
+  n = r .end - r .at
 
-    none : n + k - 0 ≡ n + k
-    none = omega arith
+  none : (k : ℕ) → k - 0 ≡ k
+  none k = omega arith
 
-    front : take n now ≡ unread r buf
-    front = rw e (take-at (unread r buf) (drop n buf) n (simp (length-take, length-drop) (omega arith)))
+  front : take n now ≡ unread r buf
+  front = rw moved (take-at (unread r buf) (drop n buf) n (simp (length-take, length-drop) (omega arith)))
 
-    size : length (unread r buf) ≡ n
-    size = simp (length-take, length-drop) (omega arith)
+  size : length (unread r buf) ≡ n
+  size = simp (length-take, length-drop) (omega arith)
 
-    both : take (n + k) (take n now ++ read) ≡ unread r buf ++ take k read
-    both =
-        rw front
-        (take-add n k (unread r buf ++ read) ∙ rw (take-at (unread r buf) read n size, drop-at (unread r buf) read n size) refl)
+  both : (k : ℕ) → take (n + k) (take n now ++ read) ≡ unread r buf ++ take k read
+  both k =
+      rw front
+      (take-add n k (unread r buf ++ read) ∙ rw (take-at (unread r buf) read n size, drop-at (unread r buf) read n size) refl)
+
+  pub read-in : (k : ℕ) → k ≤ length read
+      → Refilled r (runOf 0 (n + k) (r .put) (eqb k 0) false (r .on) (r .session)) buf (take n now ++ read)
+  read-in k small =
+      record { given = true; piece = take k read; left = λ out a b. rw (asks, length-take-le k read small, none (n + k), both k) refl }
+
+  -- a read failed; what is behind the unread bytes is not looked at
+  pub read-lost : Refilled r (runOf 0 n (r .put) (r .ended) false false (r .session)) buf (take n now ++ read)
+  read-lost =
+      let whole : take n (take n now ++ read) ≡ unread r buf = rw front (take-at (unread r buf) read n size) in
+      record { given = false; piece = []; left = λ out a b. rw (asks, none n, whole) refl }
 
 -- ---- the end of the input
 
@@ -114,11 +122,31 @@ silent h ended empty = no-line ∙ missed-ended h [] ended (none-left (h .input)
 
 -- ---- a read and a write that are not made
 
-pub not-read : (piece : List ℕ) (h : Held) → h .run .more ≡ false → h ≡ refilled piece h
-not-read piece h e = if-ind (λ (x : Held). h ≡ x) (h .run .more) (λ yes. false-true (sym e ∙ yes)) (λ _. refl)
+pub not-read : (given : Bool) (piece : List ℕ) (h : Held) → isAsking h ≡ false → h ≡ refilled given piece h
+not-read given piece h e = if-ind (λ (x : Held). h ≡ x) (isAsking h) (λ yes. false-true (sym e ∙ yes)) (λ _. refl)
 
-pub not-written : (whole : Bool) (h : Held) → isFull h ≡ false → h ≡ flushed whole h
-not-written whole h e = if-ind (λ (x : Held). h ≡ x) (isFull h) (λ yes. false-true (sym e ∙ yes)) (λ _. refl)
+pub not-written : (whole : Bool) (h : Held) → mustWrite h ≡ false → h ≡ flushed whole h
+not-written whole h e = if-ind (λ (x : Held). h ≡ x) (mustWrite h) (λ yes. false-true (sym e ∙ yes)) (λ _. refl)
+
+-- the tests of `refilled` and `flushed`
+pub is-over : (r : Run) → r .on ≡ false → (r .on && r .more) ≡ false
+is-over r off = rw off refl
+
+pub not-asking : (r : Run) → r .on ≡ true → r .more ≡ false → (r .on && r .more) ≡ false
+not-asking r on more = rw (on, more) refl
+
+pub has-room : (h : Held) → h .run .on ≡ true → h .run .more ≡ false → line-room ≤ length (h .out) - h .run .put → mustWrite h ≡ false
+has-room h on more room = rw (on, more, le-ltb _ _ room) refl
+
+pub asks-first : (h : Held) → h .run .on ≡ true → h .run .more ≡ true → mustWrite h ≡ true
+asks-first h on more = rw (on, more) refl
+
+pub is-full : (h : Held) → h .run .on ≡ true → h .run .more ≡ false → length (h .out) - h .run .put < line-room → mustWrite h ≡ true
+is-full h on more full = rw (on, more, lt-ltb _ _ full) refl
+
+pub was-written : (whole : Bool) (h : Held) → mustWrite h ≡ true
+    → held (runOf (h .run .at) (h .run .end) 0 (h .run .ended) (h .run .more) whole (h .run .session)) (h .input) (h .out) (h .store0) (h .store1) ≡ flushed whole h
+was-written whole h must = rw must refl
 
 -- ---- a line in the output
 
@@ -210,14 +238,32 @@ unread-behind r buf n =
 
 -- ---- the places after a read and a write
 
+-- what a read never touches
+read-keeps : {A : Type 0} (f : Held → A) (given : Bool) (piece : List ℕ) (h : Held)
+    → ((at end : ℕ) (ended more on : Bool) (input : List ℕ) → f (held (runOf at end (h .run .put) ended more on (h .run .session)) input (h .out) (h .store0) (h .store1)) ≡ f h)
+    → f (refilled given piece h) ≡ f h
+read-keeps f given piece h same =
+    if-ind (λ (x : Held). f x ≡ f h) (isAsking h)
+    (λ _. if-ind (λ (x : Held). f x ≡ f h) given (λ _. same _ _ _ _ _ _) (λ _. same _ _ _ _ _ _)) (λ _. refl)
+
+pub refilled-put : {r q : Run} {before after : List ℕ} → Refilled r q before after → q .put ≡ r .put
+refilled-put {r} {q} {before} f =
+    ap (λ (x : Held). x .run .put) (f .left [] [] [])
+    ∙ read-keeps (λ (x : Held). x .run .put) (f .given) (f .piece) (held r (unread r before) [] [] []) (λ _ _ _ _ _ _. refl)
+
+-- a read does not take up a run that is over
+pub refilled-on : {r q : Run} {before after : List ℕ} → Refilled r q before after → q .on ≡ true → r .on ≡ true
+refilled-on {r} {q} {before} f on =
+    if-ind (λ (x : Held). x .run .on ≡ true → r .on ≡ true) (isAsking (held r (unread r before) [] [] []))
+    (λ asks _. and-both (r .on) (r .more) asks .0) (λ _ e. e) (sym (ap (λ (x : Held). x .run .on) (f .left [] [] [])) ∙ on)
+
 pub refilled-within : {r q : Run} {before after : List ℕ} {n m : ℕ} → Refilled r q before after → Within r n m
     → (q .at ≤ q .end) × (q .end ≤ length after) → Within q (length after) m
 refilled-within {r} {q} {before} {after} {n} {m} f w places =
-    let e = f .left [] [] [] in
-    let put-kept : q .put ≡ r .put =
-    ap (λ (x : Held). x .run .put) e ∙ if-ind (λ (x : Held). x .run .put ≡ r .put) (r .more) (λ _. refl) (λ _. refl) in
+    let put-kept : q .put ≡ r .put = refilled-put f in
     let session-kept : q .session ≡ r .session =
-    ap (λ (x : Held). x .run .session) e ∙ if-ind (λ (x : Held). x .run .session ≡ r .session) (r .more) (λ _. refl) (λ _. refl) in
+    ap (λ (x : Held). x .run .session) (f .left [] [] [])
+    ∙ read-keeps (λ (x : Held). x .run .session) (f .given) (f .piece) (held r (unread r before) [] [] []) (λ _ _ _ _ _ _. refl) in
     record {
       first = places .0;
       last = places .1;
@@ -227,9 +273,20 @@ refilled-within {r} {q} {before} {after} {n} {m} f w places =
     }
 
 pub flushed-unread : (whole : Bool) (h : Held) (buf : List ℕ) → unread (flushed whole h .run) buf ≡ unread (h .run) buf
-flushed-unread whole h buf = if-ind (λ (x : Held). unread (x .run) buf ≡ unread (h .run) buf) (isFull h) (λ _. refl) (λ _. refl)
+flushed-unread whole h buf = if-ind (λ (x : Held). unread (x .run) buf ≡ unread (h .run) buf) (mustWrite h) (λ _. refl) (λ _. refl)
 
 pub flushed-within : {n m : ℕ} (whole : Bool) (h : Held) → Within (h .run) n m → Within (flushed whole h .run) n m
 flushed-within {n} {m} whole h w =
-    if-ind (λ (x : Held). Within (x .run) n m) (isFull h)
+    if-ind (λ (x : Held). Within (x .run) n m) (mustWrite h)
     (λ _. record { first = w .first; last = w .last; filled = omega arith; small = w .small; session-valid = w .session-valid }) (λ _. w)
+
+pub flushed-places : {q r : Run} {n m : ℕ} {out : List ℕ} → ((input a b : List ℕ) → held q input out a b ≡ flushed (q .on) (held r input out a b))
+    → Within r n m → Within q n m
+flushed-places {q} {r} {n} {m} {out} o w = within-as (flushed-within (q .on) (held r [] out [] []) w) (ap (λ (x : Held). x .run) (o [] [] [])) (le-refl _) refl
+
+-- nothing is in the output buffer when more input is asked for
+pub flushed-empty : {g : Held} (whole : Bool) (h : Held) → g ≡ flushed whole h → isAsking g ≡ true → g .run .put ≡ 0
+flushed-empty whole h e =
+    rw e
+    (if-ind (λ (x : Held). isAsking x ≡ true → x .run .put ≡ 0) (mustWrite h) (λ _ _. refl)
+    (λ no asks. let both = and-both (h .run .on) (h .run .more) asks in false-true (sym no ∙ rw (both .0, both .1) refl)))

@@ -8,7 +8,7 @@ use native.Mathlib.Omega.{arith}
 use lib.ListN.{length, take, drop, replicate, length-append, length-take, length-drop}
 use lib.Seq.{take-at, take-append-le, drop-append-le}
 use Rattle.lent.specs.Bytes.{put}
-use Rattle.lent.proofs.Choice.{if-ind, false-true, and-both}
+use Rattle.lent.proofs.Choice.{if-ind, false-true, and-both, both-and}
 use Rattle.log_records.specs.Records.{headed}
 use Rattle.log_records.specs.declared.Head.{Head}
 use Rattle.log_records.specs.declared.Head.the-variants.{Bad, More, Record}
@@ -18,9 +18,9 @@ use Rattle.log.specs.Whole.{bad-line, lastLine, goingOn, byHead, owed, logged}
 use Rattle.log.specs.declared.Session.{Session}
 use Rattle.log.proofs.Whole.{owed-by}
 use Rattle.machine.specs.Wire.{store-size}
-use Rattle.mi_log.specs.Run.{Held, held, runOf, over, afterRecord, turnedBy, turned, refilled, isFull, flushed}
+use Rattle.mi_log.specs.Run.{Held, held, runOf, over, afterRecord, turnedBy, turned, isAsking, refilled, mustWrite, flushed}
 use Rattle.mi_log.proofs.Places.{not-read, not-written}
-use Rattle.mi_log.specs.Whole.{unwritten, due, TurnKeeps, TurnMoves, Reached, start, turn, read, write, fail, Logs, LogsAll, Ran}
+use Rattle.mi_log.specs.Whole.{unwritten, due, TurnKeeps, TurnMoves, Reached, start, turn, read, lost, write, fail, Logs, LogsAll, Waits, Ran}
 
 -- ---- a turn
 
@@ -95,45 +95,63 @@ turn-moves h = moved (headed (h .input)) (whole (h .input))
 
 -- ---- a read and a write
 
-read-due : (h : Held) (piece later : List ℕ) → h .run .more ≡ true → due (refilled piece h) later ≡ due h (piece ++ later)
-read-due h piece later more =
-    if-ind (λ (x : Held). due x later ≡ due h (piece ++ later)) (h .run .more) (λ _. rw (append-assoc (h .input) piece later) refl)
-    (λ no. false-true (sym no ∙ more))
+read-due : (h : Held) (piece later : List ℕ) → isAsking h ≡ true → due (refilled true piece h) later ≡ due h (piece ++ later)
+read-due h piece later asks =
+    if-ind (λ (x : Held). due x later ≡ due h (piece ++ later)) (isAsking h) (λ _. rw (append-assoc (h .input) piece later) refl)
+    (λ no. false-true (sym no ∙ asks))
 
-write-due : (h : Held) (later : List ℕ) → isFull h ≡ true → unwritten h ++ due (flushed true h) later ≡ due h later
-write-due h later full =
-    if-ind (λ (x : Held). unwritten h ++ due x later ≡ due h later) (isFull h) (λ _. rw (and-both (h .run .on) _ full .0) refl) (λ no. false-true (sym no ∙ full))
+write-due : (h : Held) (later : List ℕ) → mustWrite h ≡ true → unwritten h ++ due (flushed true h) later ≡ due h later
+write-due h later must =
+    if-ind (λ (x : Held). unwritten h ++ due x later ≡ due h later) (mustWrite h) (λ _. rw (and-both (h .run .on) _ must .0) refl) (λ no. false-true (sym no ∙ must))
 
 -- ---- what holds of each state
 
--- the output lies in its buffer, and input is wanted only before its end
+-- the output lies in its buffer; input is wanted only before its end, and where no whole record is unread
 pub record Sound (h : Held) : Type 0 where
   pub fits : h .run .put ≤ length (h .out)
   pub asks : h .run .more ≡ true → h .run .ended ≡ false
+  pub short : isAsking h ≡ true → headed (h .input) ≡ More
 
 line-fits : (out : List ℕ) (at : ℕ) (line : List ℕ) → at ≤ length out → at + length line ≤ length (put out at line)
 line-fits out at line h = simp (length-append, length-take, length-drop) (omega arith)
 
-turned-sound : (h : Held) (x : Head) → Sound h → Sound (turnedBy h x)
-turned-sound h Bad s = record { fits = line-fits (h .out) (h .run .put) bad-line (s .fits); asks = s .asks }
-turned-sound h More s =
-    if-ind Sound (h .run .ended) (λ _. record { fits = line-fits (h .out) (h .run .put) (lastLine (h .input)) (s .fits); asks = s .asks })
-    (λ no. record { fits = s .fits; asks = λ _. no })
-turned-sound h (Record tag n) s = record { fits = line-fits (h .out) (h .run .put) _ (s .fits); asks = s .asks }
+turned-sound : (h : Held) (x : Head) → headed (h .input) ≡ x → Sound h → Sound (turnedBy h x)
+turned-sound h Bad e s = record { fits = line-fits (h .out) (h .run .put) bad-line (s .fits); asks = s .asks; short = λ no. false-true no }
+turned-sound h More e s =
+    if-ind Sound (h .run .ended)
+    (λ _. record { fits = line-fits (h .out) (h .run .put) (lastLine (h .input)) (s .fits); asks = s .asks; short = λ no. false-true no })
+    (λ no. record { fits = s .fits; asks = λ _. no; short = λ _. e })
+turned-sound h (Record tag n) e s =
+    record {
+      fits = line-fits (h .out) (h .run .put) _ (s .fits);
+      asks = s .asks;
+      short = λ asking. let z : _≡_ {A = ℕ} 0 1 = cc (e, s .short asking) in absurd (omega arith);
+    }
 
-read-sound : (h : Held) (piece : List ℕ) → Sound h → Sound (refilled piece h)
-read-sound h piece s = if-ind Sound (h .run .more) (λ _. record { fits = s .fits; asks = λ e. false-true e }) (λ _. s)
+read-sound : (given : Bool) (h : Held) (piece : List ℕ) → Sound h → Sound (refilled given piece h)
+read-sound given h piece s =
+    if-ind Sound (isAsking h)
+    (λ _. if-ind Sound given (λ _. record { fits = s .fits; asks = λ e. false-true e; short = λ e. false-true (and-both (h .run .on) false e .1) })
+    (λ _. record { fits = s .fits; asks = λ e. false-true e; short = λ e. false-true e })) (λ _. s)
 
 written-sound : (whole : Bool) (h : Held) → Sound h → Sound (flushed whole h)
-written-sound whole h s = if-ind Sound (isFull h) (λ _. record { fits = omega arith; asks = s .asks }) (λ _. s)
+written-sound whole h s =
+    if-ind Sound (mustWrite h)
+    (λ must. record {
+      fits = omega arith;
+      asks = s .asks;
+      short = λ e. s .short (both-and (h .run .on) (h .run .more) (and-both (h .run .on) _ must .0) (and-both whole (h .run .more) e .1));
+    })
+    (λ _. s)
 
 sound : {i w : List ℕ} {whole : Bool} {h : Held} → Reached i w whole h → Sound h
 unfolding turned
-sound (start out) = record { fits = omega arith; asks = λ e. false-true e }
-sound (turn {h = h} on r) = turned-sound h (headed (h .input)) (sound r)
-sound (read {h = h} more piece r) = read-sound h piece (sound r)
-sound (write {h = h} full r) = written-sound true h (sound r)
-sound (fail {h = h} full some r) = written-sound false h (sound r)
+sound (start out) = record { fits = omega arith; asks = λ e. false-true e; short = λ e. false-true e }
+sound (turn {h = h} on r) = turned-sound h (headed (h .input)) refl (sound r)
+sound (read {h = h} asks empty piece r) = read-sound true h piece (sound r)
+sound (lost {h = h} asks empty r) = read-sound false h [] (sound r)
+sound (write {h = h} must r) = written-sound true h (sound r)
+sound (fail {h = h} must some r) = written-sound false h (sound r)
 
 -- ---- the program
 
@@ -143,7 +161,7 @@ turned-ended h More = if-ind (λ (x : Held). x .run .ended ≡ h .run .ended) (h
 turned-ended h (Record tag n) = refl
 
 flushed-ended : (whole : Bool) (h : Held) → flushed whole h .run .ended ≡ h .run .ended
-flushed-ended whole h = if-ind (λ (x : Held). x .run .ended ≡ h .run .ended) (isFull h) (λ _. refl) (λ _. refl)
+flushed-ended whole h = if-ind (λ (x : Held). x .run .ended ≡ h .run .ended) (mustWrite h) (λ _. refl) (λ _. refl)
 
 reached-logs : {i w : List ℕ} {whole : Bool} {h : Held} → Reached i w whole h → whole ≡ true → (later : List ℕ) → (h .run .ended ≡ true → later ≡ [])
     → w ++ due h later ≡ logged (i ++ later)
@@ -152,15 +170,16 @@ reached-logs (start out) wrote later all = refl
 reached-logs (turn {i} {w} {whole} {h} on r) wrote later all =
     let ended : h .run .ended ≡ true → later ≡ [] = λ e. all (turned-ended h (headed (h .input)) ∙ e) in
     ap (λ (l : List ℕ). w ++ l) (turn-keeps h later on (sound r .fits) ended) ∙ reached-logs r wrote later ended
-reached-logs (read {i} {w} {whole} {h} more piece r) wrote later all =
-    ap (λ (l : List ℕ). w ++ l) (read-due h piece later more)
-    ∙ reached-logs r wrote (piece ++ later) (λ e. false-true (sym (sound r .asks more) ∙ e))
+reached-logs (read {i} {w} {whole} {h} asks empty piece r) wrote later all =
+    ap (λ (l : List ℕ). w ++ l) (read-due h piece later asks)
+    ∙ reached-logs r wrote (piece ++ later) (λ e. false-true (sym (sound r .asks (and-both (h .run .on) (h .run .more) asks .1)) ∙ e))
     ∙ ap (λ (l : List ℕ). logged l) (sym (append-assoc i piece later))
-reached-logs (write {i} {w} {whole} {h} full r) wrote later all =
+reached-logs (lost asks empty r) wrote later all = false-true wrote
+reached-logs (write {i} {w} {whole} {h} must r) wrote later all =
     append-assoc w (unwritten h) (due (flushed true h) later)
-    ∙ ap (λ (l : List ℕ). w ++ l) (write-due h later full)
+    ∙ ap (λ (l : List ℕ). w ++ l) (write-due h later must)
     ∙ reached-logs r wrote later (λ e. all (flushed-ended true h ∙ e))
-reached-logs (fail full some r) wrote later all = false-true wrote
+reached-logs (fail must some r) wrote later all = false-true wrote
 
 pub logs : Logs
 logs i w h r later all = reached-logs r refl later all
@@ -169,6 +188,18 @@ pub logs-all : LogsAll
 logs-all i w h r off =
     let nothing : due h [] ≡ unwritten h = rw off (append-nil (unwritten h)) in
     ap (λ (l : List ℕ). w ++ l) (sym nothing) ∙ logs i w h r [] (λ _. refl) ∙ ap (λ (l : List ℕ). logged l) (append-nil i)
+
+pub waits : Waits
+waits i w h r asks empty = (sound r .short asks, λ later. ap (λ (l : List ℕ). w ++ l) (sym (nothing later)) ∙ logs i w h r later (λ e. false-true (sym no-end ∙ e)))
+  where
+    on : h .run .on ≡ true
+    on = and-both (h .run .on) (h .run .more) asks .0
+
+    no-end : h .run .ended ≡ false
+    no-end = sound r .asks (and-both (h .run .on) (h .run .more) asks .1)
+
+    nothing : (later : List ℕ) → due h later ≡ owed (h .run .session) (h .store0) (h .store1) (h .input ++ later)
+    nothing later = rw (on, empty) refl
 
 -- ---- what was read and written, along the loop
 
@@ -182,17 +213,23 @@ ran-start s out a b e f g = rw (e, f, g) (record { input = []; written = []; who
 pub ran-turn : (h : Held) → h .run .on ≡ true → Ran h → Ran (turned h)
 ran-turn h on r = record { input = r .input; written = r .written; whole = r .whole; reached = turn on (r .reached) }
 
-pub ran-read : (h : Held) (piece : List ℕ) → Ran h → Ran (refilled piece h)
-ran-read h piece r = go (h .run .more) refl
+pub ran-read : (h : Held) (given : Bool) (piece : List ℕ) → (isAsking h ≡ true → h .run .put ≡ 0) → Ran h → Ran (refilled given piece h)
+ran-read h given piece empty r = go (isAsking h) given refl
   where
-    go : (b : Bool) → h .run .more ≡ b → Ran (refilled piece h)
-    go true more = record { input = r .input ++ piece; written = r .written; whole = r .whole; reached = read more piece (r .reached) }
-    go false more = ran-as (sym (not-read piece h more)) r
+    lost-same : isAsking h ≡ true → refilled false piece h ≡ refilled false [] h
+    lost-same asks = rw asks refl
+
+    go : (b given : Bool) → isAsking h ≡ b → Ran (refilled given piece h)
+    go true true asks = record { input = r .input ++ piece; written = r .written; whole = r .whole; reached = read asks (empty asks) piece (r .reached) }
+    go true false asks =
+        ran-as (lost-same asks) (record { input = r .input; written = r .written; whole = false; reached = lost asks (empty asks) (r .reached) })
+    go false given asks = ran-as (sym (not-read given piece h asks)) r
+
 
 pub ran-write : (h : Held) (whole : Bool) → Ran h → Ran (flushed whole h)
-ran-write h whole r = go (isFull h) whole refl
+ran-write h whole r = go (mustWrite h) whole refl
   where
-    go : (b whole : Bool) → isFull h ≡ b → Ran (flushed whole h)
-    go true true full = record { input = r .input; written = r .written ++ unwritten h; whole = r .whole; reached = write full (r .reached) }
-    go true false full = record { input = r .input; written = r .written ++ []; whole = false; reached = fail full [] (r .reached) }
-    go false whole full = ran-as (sym (not-written whole h full)) r
+    go : (b whole : Bool) → mustWrite h ≡ b → Ran (flushed whole h)
+    go true true must = record { input = r .input; written = r .written ++ unwritten h; whole = r .whole; reached = write must (r .reached) }
+    go true false must = record { input = r .input; written = r .written ++ []; whole = false; reached = fail must [] (r .reached) }
+    go false whole must = ran-as (sym (not-written whole h must)) r

@@ -2,7 +2,7 @@
 -- Assumes nothing.
 use Prim.Native.Nat.{ℕ, _+_, _-_, _≤_}
 use mathlib.Core.Path.{_≡_}
-use mathlib.Core.Bool.{Bool, true, false, _&&_}
+use mathlib.Core.Bool.{Bool, true, false, _&&_, _||_}
 use mathlib.Core.List.{List, _++_}
 use lib.Dec.{eqb, ltb}
 use lib.ListN.{length, take, drop}
@@ -73,24 +73,30 @@ turned h = turnedBy h (headed (h .input))
 
 -- ---- a read and a write
 
--- where more input is wanted, a read gave this piece of it; none is there at its end
-abbrev pub refilled : List ℕ → Held → Held
-refilled piece h =
+-- the run goes on, and more input is wanted
+abbrev pub isAsking : Held → Bool
+isAsking h = h .run .on && h .run .more
+
+-- then a read gave this piece of it, none at its end; or it failed, and the run is over
+abbrev pub refilled : Bool → List ℕ → Held → Held
+refilled given piece h =
     let r = h .run in
-    if r .more then
+    if isAsking h then
+    (if given then
     held (runOf 0 (r .end - r .at + length piece) (r .put) (eqb (length piece) 0) false (r .on) (r .session))
     (h .input ++ piece) (h .out) (h .store0) (h .store1)
+    else held (runOf 0 (r .end - r .at) (r .put) (r .ended) false false (r .session)) (h .input) (h .out) (h .store0) (h .store1))
     else h
 
--- the run goes on, and a line would not fit behind the output
-abbrev pub isFull : Held → Bool
-isFull h = h .run .on && ltb (length (h .out) - h .run .put) line-room
+-- the run goes on, and more input is wanted or a line would not fit behind the output
+abbrev pub mustWrite : Held → Bool
+mustWrite h = h .run .on && (h .run .more || ltb (length (h .out) - h .run .put) line-room)
 
 -- then the output was written; the run goes on if all of it was
 abbrev pub flushed : Bool → Held → Held
 flushed whole h =
     let r = h .run in
-    if isFull h then
+    if mustWrite h then
     held (runOf (r .at) (r .end) 0 (r .ended) (r .more) whole (r .session)) (h .input) (h .out) (h .store0) (h .store1)
     else h
 
@@ -125,7 +131,8 @@ abbrev pub printedAt : ℕ → List ℕ → Recorded → Printed
 printedAt at out x =
     printedTo (record { session = x .session; length = length (x .line) }) (Bytes·put out at (x .line)) (x .store0) (x .store1)
 
--- what a read left: some piece of input is behind what was unread
+-- what a read left: some piece of input is behind what was unread, or it failed
 pub record Refilled (r q : Run) (before after : List ℕ) : Type 0 where
+  pub given : Bool
   pub piece : List ℕ
-  pub left : (out a b : List ℕ) → held q (unread q after) out a b ≡ refilled piece (held r (unread r before) out a b)
+  pub left : (out a b : List ℕ) → held q (unread q after) out a b ≡ refilled given piece (held r (unread r before) out a b)

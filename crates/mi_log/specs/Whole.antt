@@ -7,9 +7,11 @@ use mathlib.Core.List.{List, [], _++_}
 use lib.ListN.{length, take, replicate}
 use Rattle.lent.specs.Choice.{if_then_else_}
 use Rattle.machine.specs.Wire.{store-size}
+use Rattle.log_records.specs.Records.{headed}
+use Rattle.log_records.specs.declared.Head.the-variants.{More}
 use Rattle.log.specs.Log.{atStart}
 use Rattle.log.specs.Whole.{owed, logged}
-use Rattle.mi_log.specs.Run.{Held, held, runOf, turned, refilled, isFull, flushed}
+use Rattle.mi_log.specs.Run.{Held, held, runOf, turned, isAsking, refilled, mustWrite, flushed}
 
 -- ---- what is due
 
@@ -34,17 +36,19 @@ TurnMoves = (h : Held) → turned h .run .on ≡ true → turned h .run .more �
 
 -- ---- the whole run
 
--- where turns, reads and writes lead: what was read, what was written, whether every write was whole, and what the program then has
+-- where turns, reads and writes lead: what was read, what was written, whether no read and no write failed, and what the program then has
 pub data Reached : List ℕ → List ℕ → Bool → Held → Type 0 where
   -- nothing is read, and the stores are zeros
   start : (out : List ℕ) → Reached [] [] true (held (runOf 0 0 0 false false true atStart) [] out (replicate store-size 0) (replicate store-size 0))
   turn : {i w : List ℕ} {whole : Bool} {h : Held} → h .run .on ≡ true → Reached i w whole h → Reached i w whole (turned h)
-  -- the piece that a read gave
-  read : {i w : List ℕ} {whole : Bool} {h : Held} → h .run .more ≡ true → (piece : List ℕ) → Reached i w whole h
-      → Reached (i ++ piece) w whole (refilled piece h)
-  write : {i w : List ℕ} {whole : Bool} {h : Held} → isFull h ≡ true → Reached i w whole h → Reached i (w ++ unwritten h) whole (flushed true h)
+  -- the piece that a read gave; before it, all that was answered is written
+  read : {i w : List ℕ} {whole : Bool} {h : Held} → isAsking h ≡ true → h .run .put ≡ 0 → (piece : List ℕ) → Reached i w whole h
+      → Reached (i ++ piece) w whole (refilled true piece h)
+  -- a read that failed
+  lost : {i w : List ℕ} {whole : Bool} {h : Held} → isAsking h ≡ true → h .run .put ≡ 0 → Reached i w whole h → Reached i w false (refilled false [] h)
+  write : {i w : List ℕ} {whole : Bool} {h : Held} → mustWrite h ≡ true → Reached i w whole h → Reached i (w ++ unwritten h) whole (flushed true h)
   -- a write that failed, of which some may have been written
-  fail : {i w : List ℕ} {whole : Bool} {h : Held} → isFull h ≡ true → (some : List ℕ) → Reached i w whole h
+  fail : {i w : List ℕ} {whole : Bool} {h : Held} → mustWrite h ≡ true → (some : List ℕ) → Reached i w whole h
       → Reached i (w ++ some) false (flushed false h)
 
 -- THE PROGRAM, `logs` (proofs/Whole): at any time, and whatever input is still to come, what was written and what is due are together what
@@ -56,6 +60,13 @@ Logs =
 -- AT ITS END, `logs-all` (proofs/Whole): what was written, and the output buffer behind it, is what the log program prints for all that was read
 abbrev pub LogsAll : Type 0
 LogsAll = (i w : List ℕ) (h : Held) → Reached i w true h → h .run .on ≡ false → w ++ unwritten h ≡ logged i
+
+-- WHEN IT WAITS, `waits` (proofs/Whole): no whole record is unread when more input is asked for and nothing is in the output buffer, as before every
+-- read. So what was written is what all whole records so far print, whatever comes later.
+abbrev pub Waits : Type 0
+Waits =
+    (i w : List ℕ) (h : Held) → Reached i w true h → isAsking h ≡ true → h .run .put ≡ 0
+    → (headed (h .input) ≡ More) × ((later : List ℕ) → w ++ owed (h .run .session) (h .store0) (h .store1) (h .input ++ later) ≡ logged (i ++ later))
 
 -- some input was read and some output written, and the program then has this
 pub record Ran (h : Held) : Type 0 where

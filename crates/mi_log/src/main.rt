@@ -1,5 +1,5 @@
 // The log program: reads records on standard input, and prints a line for each. `refill` reads and `with_room` writes; all between them is in
-// `turn`. What a record does is in `log`.
+// `turn`. What a record does is in `log`. A read or a write that fails ends the run, and is told on standard error.
 ghost use mathlib.Core.Path.{_≡_};
 ghost use mathlib.Core.Bool.{true};
 ghost use mathlib.Core.List.{List, _++_};
@@ -43,12 +43,19 @@ fn shift(buf: &mut [u8], at: usize, n: usize)
     }
 }
 
-// Where more input is wanted, moves what is unread to the front, and reads once behind it.
+fn tell(what: &[u8]) {
+    io::write_all(libc::STDERR_FILENO, what);
+}
+
+// Where more input is wanted, moves what is unread to the front, and reads once behind it. A read that fails ends the run.
 fn refill(buf: &mut [u8], r: Run) -> Run
     requires { ⌜ (r .at ≤ r .end) × (r .end ≤ length (now buf)) ⌝ }
     ensures { λ q. ⌜ Refilled r q (now (buf .entry)) (now (buf .exit)) ⌝ }
     ensures { λ q. ⌜ (q .at ≤ q .end) × (q .end ≤ length (now (buf .exit))) ⌝ }
 {
+    if !r.on {
+        return r;
+    }
     if !r.more {
         return r;
     }
@@ -56,8 +63,18 @@ fn refill(buf: &mut [u8], r: Run) -> Run
     let n = r.end - at;
     shift(buf, at, n);
     let t = &mut buf[n..];
-    let got = libc::read(0, t);
+    let got = libc::read(libc::STDIN_FILENO, t);
     let k = io::count(got, t);
+    if got < 0 {
+        tell(b"mi_log: standard input can not be read\n");
+        return Run {
+            at: 0,
+            end: n,
+            more: false,
+            on: false,
+            ..r
+        };
+    }
     Run {
         at: 0,
         end: n + k,
@@ -67,7 +84,17 @@ fn refill(buf: &mut [u8], r: Run) -> Run
     }
 }
 
-// Writes the output where a line would not fit behind it. A write that fails ends the run.
+// Writes the output, and tells it if that fails.
+fn written(out: &[u8]) -> bool {
+    let whole = io::write_all(libc::STDOUT_FILENO, out);
+    if !whole {
+        tell(b"mi_log: standard output can not be written; answers are missing\n");
+    }
+    whole
+}
+
+// Writes the output before more input is waited for, so that a pipe can be used live, and where a line would not fit behind it. A write that
+// fails ends the run.
 fn with_room(out: &[u8], r: Run) -> Run
     requires { ⌜ r .put ≤ length (now out) ⌝ }
     requires { ⌜ line-room ≤ length (now out) ⌝ }
@@ -78,10 +105,10 @@ fn with_room(out: &[u8], r: Run) -> Run
         return r;
     }
     let put = r.put;
-    if out.len() - put >= LINE_ROOM {
+    if !r.more && out.len() - put >= LINE_ROOM {
         return r;
     }
-    let on = io::write_all(1, &out[..put]);
+    let on = written(&out[..put]);
     Run { put: 0, on, ..r }
 }
 
@@ -183,7 +210,7 @@ fn turn(buf: &[u8], out: &mut [u8], store0: &mut [u8], store1: &mut [u8], r: Run
     }
 }
 
-// Turns, each followed by the read and the write that it makes necessary. What the output buffer then holds is not yet written.
+// Turns, each followed by the write and the read that it makes necessary. What the output buffer then holds is not yet written.
 fn all(buf: &mut [u8], out: &mut [u8], store0: &mut [u8], store1: &mut [u8]) -> Run
     requires { ⌜ (line-room ≤ length (now out)) × (length (now out) ≤ 65536) ⌝ }
     requires { ⌜ (now store0 ≡ replicate store-size 0) × (now store1 ≡ replicate store-size 0) ⌝ }
@@ -203,8 +230,8 @@ fn all(buf: &mut [u8], out: &mut [u8], store0: &mut [u8], store1: &mut [u8]) -> 
     let mut turns = u64::MAX;
     while turns > 0 && r.on {
         r = turn(buf, out, store0, store1, r);
-        r = refill(buf, r);
         r = with_room(out, r);
+        r = refill(buf, r);
         turns -= 1;
     }
     r
@@ -217,5 +244,5 @@ fn main() {
     let mut store1 = [0u8; STORE_SIZE];
     let r = all(&mut buf, &mut out, &mut store0, &mut store1);
     let put = r.put;
-    io::write_all(1, &out[..put]);
+    written(&out[..put]);
 }
