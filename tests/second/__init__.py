@@ -1,13 +1,16 @@
-"""A second program for the two-slot endpoint and its log program, from document 01 alone.
+"""A second program for the two-slot endpoint, its log program and its calls program, from the documents alone.
 
-    python3 tests/second < LOG     the log program
-    python3 tests/second bench     the examples of the bench, one line each
+    python3 tests/second < LOG              the log program
+    python3 tests/second calls < SCRIPT     the calls program
+    python3 tests/second bench              the examples of the bench, one line each
 
     wire       packets, messages and the integrity check, as bytes
     endpoint   what a slot holds, and the calls
+    framing    how records are read
     log        the records of a log, and the line that each prints
+    calls      the records of a script, and the line that each prints
     bench      the lines of the bench
 
-Each part uses only those above it. Sentences in double quotes in the comments are sentences of the
-document.
+Each part uses only those above it. Sentences in double quotes in the comments are sentences of document 01
+or, in `calls`, of the page that fixes its records and lines.
 """

@@ -7,15 +7,18 @@ import sys
 sys.path[0] = str(pathlib.Path(__file__).resolve().parent.parent)
 
 from second.bench import bench_lines  # noqa: E402
+from second.calls import call_lines  # noqa: E402
 from second.log import log_lines  # noqa: E402
+
+PROGRAMS = {"log": log_lines, "calls": call_lines, "bench": lambda stream: bench_lines()}
 
 def main():
     parser = argparse.ArgumentParser(
-        prog="second", description="Prints what the endpoint answers to the log on standard input.")
-    parser.add_argument("bench", nargs="?", choices=["bench"],
-                        help="print the lines of the bench instead")
-    lines = bench_lines() if parser.parse_args().bench else log_lines(sys.stdin.buffer)
-    for line in lines:
-        sys.stdout.write(f"{line}\n")
+        prog="second", description="Prints what the endpoint answers to the records on standard input.")
+    parser.add_argument("program", nargs="?", default="log", choices=PROGRAMS,
+                        help="whose records they are; the bench prints its lines without any")
+    for line in PROGRAMS[parser.parse_args().program](sys.stdin.buffer):
+        # A line is there as soon as its record was read, also for one who waits for it in a pipe.
+        print(line, flush=True)
 
 main()

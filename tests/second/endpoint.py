@@ -19,8 +19,9 @@ To look at it, changing nothing:
     .jobs              what each slot holds, another object whenever that changes
     .gathering         (source, tag) -> slot in Receive
     .reply             the waiting control reply ((source, tag), 12 bytes), or None
-    .last_began        the slot whose response last began; .last_was_control: whether the
-                       last packet handed out was a control reply
+    .last_began        the slot whose response last began, or None
+    .turn              the slot that goes first when no response is begun
+    .last_was_control  whether the last packet handed out was a control reply
 """
 from collections import namedtuple
 
@@ -128,6 +129,12 @@ class Endpoint:
     @property
     def gathering(self):
         return {job.who: slot for slot, job in enumerate(self.jobs) if isinstance(job, Receive)}
+
+    @property
+    def turn(self):
+        # "with none begun, the slot other than the one that last began goes first if in Transmit
+        # (after setup or reset, slot 0)"
+        return 1 if self.last_began == 0 else 0
 
     # Steps that several calls share
 
@@ -394,11 +401,8 @@ class Endpoint:
         for slot in sending:
             if self.jobs[slot].sent:
                 return slot
-        # "with none begun, the slot other than the one that last began goes first if in Transmit
-        # (after setup or reset, slot 0)"
-        turn = 1 if self.last_began == 0 else 0
-        if turn in sending:
-            return turn
+        if self.turn in sending:
+            return self.turn
         return sending[0] if sending else None
 
     def control_reply(self):

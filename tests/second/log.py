@@ -1,5 +1,6 @@
 """The log program: the records of a log, and the line that each prints."""
 from second.endpoint import BUFFER, Endpoint, Ticket
+from second.framing import framed
 
 PACKET, POLL, TIMEOUT, TAKE, COMPLETE, RESET = range(1, 7)
 
@@ -8,23 +9,7 @@ PACKET, POLL, TIMEOUT, TAKE, COMPLETE, RESET = range(1, 7)
 LENGTHS = {PACKET: (0, 4300), POLL: (0, 0), TIMEOUT: (1, 1), TAKE: (1, 1), COMPLETE: (1, 4300), RESET: (0, 0)}
 
 def records(stream):
-    """ "one-byte tag, two-byte length (low first), bytes": tag and bytes of each record; both are
-    None for a faulty one, and that is the last."""
-    while True:
-        head = stream.read(3)
-        if not head:
-            return
-        # "An unknown tag, a wrong or over-4,300 length [..] or a cut record"
-        if len(head) == 3 and head[0] in LENGTHS:
-            least, greatest = LENGTHS[head[0]]
-            length = head[1] | head[2] << 8
-            if least <= length <= greatest:
-                data = stream.read(length)
-                if len(data) == length:
-                    yield head[0], data
-                    continue
-        yield None, None
-        return
+    return framed(stream, LENGTHS)
 
 class Log:
     """A log under way: the endpoint, and the ticket last taken from each slot."""

@@ -1,0 +1,147 @@
+"""The calls program: each call with any arguments, and the line that it prints."""
+import functools
+import struct
+
+from second.endpoint import (ENDPOINT_BITS, SLOT_BIT, STORE, Answered, Endpoint, Idle, Process, Receive, Ticket,
+                             Transmit)
+from second.framing import framed
+from second.wire import PAYLOAD, crc32c
+
+SETUP, STORES, RECEIVE, TAKE, READ, COMPLETE, POLL, TIMEOUT, RESET, LOOK = range(16, 26)
+
+MEMORY = 4300               # "A store is 4,300 bytes of memory, zeros, whose front is lent"
+LONGEST_BODY = 8192         # "a body of that many bytes, at most 8,192"
+UNTOUCHED = b"\xa5"         # "lent anew at just that length, every byte A5h"
+
+# The least and the greatest length of each body
+LENGTHS = {SETUP: (1, 1), STORES: (4, 4), RECEIVE: (0, LONGEST_BODY), TAKE: (4, 4), READ: (4, 4),
+           COMPLETE: (8, LONGEST_BODY), POLL: (2, 2), TIMEOUT: (4, 4), RESET: (0, 0), LOOK: (0, 0)}
+
+# "Numbers in a record are low byte first; slots and tickets are full 32-bit numbers."
+NUMBER, TWO_NUMBERS, LENGTH, TWO_LENGTHS = (struct.Struct(form) for form in ("<I", "<II", "<H", "<HH"))
+
+def records(stream):
+    """Tag and bytes of each record; both are None for a faulty one, and that is the last."""
+    for tag, data in framed(stream, LENGTHS):
+        # "lengths of store 0 and store 1 that are lent from now on (2, 2); above 4,300 is `bad`"
+        if tag == STORES and max(TWO_LENGTHS.unpack(data)) > MEMORY:
+            yield None, None
+            return
+        yield tag, data
+
+
+# How a line shows a value
+
+def in_hex(data):
+    """ "bytes are lower-case hex and `-` where there are none" """
+    return data.hex() or "-"
+
+def joined(*words):
+    return ":".join(str(word) for word in words)
+
+# What a look prints of a slot, behind its ticket and its two flags
+PHASES = {
+    Idle: lambda job: "idle",
+    Receive: lambda job: joined("receive", *job.who, job.sequence, job.length),
+    Process: lambda job: joined("process", *job.who, job.header.nmimt, job.length,
+                                "taken" if job.taken else "untaken"),
+    Answered: lambda job: joined("answered", *job.who, job.response),
+    Transmit: lambda job: joined("transmit", *job.who, job.length, job.sent)}
+
+def shown_slot(endpoint, slot):
+    """ "TICKET,PAUSED,BUSY,PHASE" """
+    job = endpoint.jobs[slot]
+    paused, busy = endpoint.paused >> slot & 1, endpoint.flags >> SLOT_BIT[slot] & 1
+    return f"{endpoint.counts[slot]},{paused},{busy},{PHASES[type(job)](job)}"
+
+def shown_reply(reply):
+    """ "`REQUESTER:TAG:BYTES` while a control reply waits [..], `-` once it was handed out" """
+    if reply is None:
+        return "-"
+    who, message = reply
+    return joined(*who, message.hex())
+
+# Looks follow each other without a change of the stores, so a check is often wanted again.
+@functools.lru_cache(maxsize=4096)
+def check_of(data):
+    """ "CRC-32C of the lent bytes of the stores as a number, eight hex digits, highest first" """
+    return f"{crc32c(data):08x}"
+
+
+class Calls:
+    """The calls under way: the endpoint, and two stores' memory with the lengths that are lent."""
+
+    def __init__(self):
+        # "At the start: endpoint [..] as a setup with EID 8 [..] leaves them"; "4,224 bytes at the start"
+        self.memory = bytearray(MEMORY), bytearray(MEMORY)
+        self.lent = STORE, STORE
+        self.setup(bytes((8,)))
+        self.calls = {SETUP: self.setup, STORES: self.stores, RECEIVE: self.receive, TAKE: self.take,
+                      READ: self.read, COMPLETE: self.complete, POLL: self.poll, TIMEOUT: self.timeout,
+                      RESET: self.reset, LOOK: self.look}
+
+    def line(self, tag, data):
+        """Do what the record says; the line that it prints."""
+        return "bad" if tag is None else str(self.calls[tag](data))
+
+    def lend(self):
+        self.endpoint.stores = [memoryview(memory)[:length] for memory, length in zip(self.memory, self.lent)]
+
+    def setup(self, data):
+        # "A setup replaces the state by the one that the call gives, beside 38 [..] too, and leaves
+        # stores, lent lengths [..] alone."
+        answer, self.endpoint = Endpoint.setup(data[0])
+        self.lend()
+        return answer
+
+    def stores(self, data):
+        # "a change of the lent length keeps the bytes"
+        self.lent = TWO_LENGTHS.unpack(data)
+        self.lend()
+        return 0
+
+    def receive(self, packet):
+        return self.endpoint.receive(packet)
+
+    def take(self, data):
+        answer, ticket = self.endpoint.take(*NUMBER.unpack(data))
+        return f"0 {ticket.number}" if answer == 0 else answer
+
+    def read(self, data):
+        part = self.endpoint.read(*NUMBER.unpack(data))
+        return f"{len(part)} {in_hex(part)}"
+
+    def complete(self, data):
+        slot, ticket = TWO_NUMBERS.unpack(data[:8])
+        return self.endpoint.complete(slot, Ticket(ticket), data[8:])
+
+    def poll(self, data):
+        length, = LENGTH.unpack(data)
+        buffer = bytearray(UNTOUCHED * length)
+        answer, packet = self.endpoint.poll(len(buffer))
+        buffer[:len(packet)] = packet
+        # "`stays` if the bytes behind what was written (all, if nothing was) are still A5h, else `touched`"
+        behind = buffer[len(packet):]
+        end = "stays" if behind == UNTOUCHED * len(behind) else "touched"
+        return f"1 {len(packet)} {in_hex(packet)} {end}" if answer == 1 else f"{answer} {end}"
+
+    def timeout(self, data):
+        return self.endpoint.timeout(*NUMBER.unpack(data))
+
+    def reset(self, _):
+        return self.endpoint.reset()
+
+    def look(self, _):
+        """ "flags: four hex digits, bits 4 to 14 of the Get State word at their places"; "unit is 64" """
+        endpoint = self.endpoint
+        shown = {"eid": endpoint.eid, "unit": PAYLOAD, "flags": f"{endpoint.flags & ENDPOINT_BITS:04x}",
+                 "turn": endpoint.turn, "last": int(endpoint.last_was_control),
+                 "reply": shown_reply(endpoint.reply),
+                 "slot0": shown_slot(endpoint, 0), "slot1": shown_slot(endpoint, 1),
+                 "check0": check_of(bytes(endpoint.stores[0])), "check1": check_of(bytes(endpoint.stores[1]))}
+        return " ".join(f"{name}={value}" for name, value in shown.items())
+
+def call_lines(stream):
+    calls = Calls()
+    for tag, data in records(stream):
+        yield calls.line(tag, data)
