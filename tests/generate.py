@@ -13,7 +13,7 @@ import argparse
 import random
 
 import records
-from reached import Run, SIZES
+from reached import SIZES, LogRun
 from records import FULL
 from second.wire import ABORT, ADMIN, GET_STATE, MI, PAUSE, PCIE, RESUME
 
@@ -30,9 +30,14 @@ class Sender:
         self.packets, self.slot, self.key = packets, slot, key
 
 class Generator:
+    """Chooses the records of a log. A kind of its own for other records says what run they are part of,
+    and how a log's record is put."""
+    new_run = LogRun
+    one_in_faulty = 4           # of so many inputs, one ends with a faulty record
+
     def __init__(self, seed, count):
         self.random = random.Random(seed)
-        self.count, self.run, self.log = count, Run(), []
+        self.count, self.run, self.log = count, self.new_run(), []
         self.senders = []
 
     def chance(self, one_in):
@@ -43,8 +48,13 @@ class Generator:
         for record in found:
             if len(self.log) == self.count:
                 return
+            record = self.put(record)
             self.log.append(record)
             self.run.record(record[0], record[3:])
+
+    def put(self, record):
+        """How a log's record stands in what is written."""
+        return record
 
     # What a record can be
     def slot(self, *wanted):
@@ -93,12 +103,19 @@ class Generator:
         if not self.chance(3 * rest + 12):
             for _ in range(min(many, rest)):
                 self.write(sender.packets.pop(0))
+                if self.gives_up(sender):
+                    sender.packets.clear()
+                    break
                 if rest > 8 and self.chance(120):
                     self.other()
         else:
             self.write(self.spoiled(sender.packets.pop(0)))
         if not sender.packets:
             self.senders.remove(sender)
+
+    def gives_up(self, sender):
+        """Whether the rest of the message is not sent; a log shows what comes of sending on."""
+        return False
 
     def spoiled(self, record):
         """The packet with one thing wrong."""
@@ -193,7 +210,7 @@ class Generator:
         if self.chance(5):
             for _ in range(140):
                 self.write(records.POLL)
-                if self.run.lines[-1] == "0" or self.chance(150):
+                if self.run.lines[-1].split()[0] == "0" or self.chance(150):
                     return
                 if self.chance(40):
                     self.control(GET_STATE)
@@ -281,10 +298,9 @@ class Generator:
         else:
             self.other()
 
-def generate(seed, count):
-    """The log's bytes, and its Run."""
-    generator = Generator(seed, count)
-    fault = generator.faulty() if generator.chance(4) else None
+def generated(generator):
+    """The bytes that the generator chooses, and their Run."""
+    fault = generator.faulty() if generator.chance(generator.one_in_faulty) else None
     generator.count -= fault is not None
     while len(generator.log) < generator.count:
         generator.step()
@@ -293,11 +309,15 @@ def generate(seed, count):
         generator.run.fault(fault)
     return b"".join(generator.log), generator.run
 
-def main():
-    parser = argparse.ArgumentParser(description="Writes a random log; the same SEED and N give the same one.")
+def generate(seed, count):
+    """The log's bytes, and its Run."""
+    return generated(Generator(seed, count))
+
+def command_line(generate, what):
+    parser = argparse.ArgumentParser(description=f"Writes a random {what}; the same SEED and N give the same one.")
     parser.add_argument("seed", metavar="SEED", type=int)
     parser.add_argument("count", metavar="N", type=int, help="how many records")
-    parser.add_argument("out", metavar="OUT", type=argparse.FileType("wb"), help="the log's file")
+    parser.add_argument("out", metavar="OUT", type=argparse.FileType("wb"), help=f"the {what}'s file")
     given = parser.parse_args()
     written, run = generate(given.seed, given.count)
     with given.out as out:
@@ -305,4 +325,4 @@ def main():
     print("\n".join(sorted(run.reached)))
 
 if __name__ == "__main__":
-    main()
+    command_line(generate, "log")

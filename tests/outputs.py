@@ -1,14 +1,12 @@
-"""Outputs of a log program, as bytes: what the second program prints, and where two outputs differ."""
+"""Outputs of a program, as bytes: what the second program prints, and where two outputs differ."""
 import io
-
-from second.log import log_lines
 
 def output_of(lines):
     return "".join(f"{line}\n" for line in lines).encode()
 
-def expected_output(log):
-    """What the second program prints for this log."""
-    return output_of(log_lines(io.BytesIO(log)))
+def expected_output(program, given):
+    """What the second program prints for this input of the program."""
+    return output_of(program.lines(io.BytesIO(given)))
 
 def first_difference(one, output, other, other_output):
     """The first line in which two outputs differ, in words. `one` and `other` say whose they are."""

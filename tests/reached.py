@@ -1,17 +1,15 @@
-"""Runs records on the second program's log and notes what they reach.
+"""What logs reach.
 
-A goal is a short line of text. GOALS is every line that a right set of logs has to reach; what a
-log can never show is left out: 34 (the ticket last taken is never that of an untaken command,
-short of 2^32 commands), 36, 38 and 40 (buffer, EID and stores are the log program's own).
+GOALS is every line that a right set of logs has to reach; what a log can never show is left out: 34 (the
+ticket last taken is never that of an untaken command, short of 2^32 commands), 36, 38 and 40 (buffer, EID
+and stores are the log program's own).
 """
-import copy
-import io
-
+import runs
+from runs import STATES, Run, has_begun, in_transmit, is_paused
 from second.endpoint import STORE, Process
 from second.log import COMPLETE, LENGTHS, PACKET, POLL, RESET, TAKE, TIMEOUT, Log, records
 from second.wire import ABORT, GET_STATE, PAUSE, PAYLOAD, RESUME, control_request, message_header, packet_fields
 
-STATES = ("Idle", "Receive", "Process untaken", "Process taken", "Process answered", "Transmit")
 PRIMITIVES = {PAUSE: "Pause", RESUME: "Resume", ABORT: "Abort", GET_STATE: "Get State"}
 ANSWERS = {"receive": (0, 1, 2, *range(10, 24)), "poll": (0, 1), "timeout": (0, 30, 37),
            "take": (0, 30, 31, 33), "complete": (0, 30, 31, 32, 35), "reset": (0,)}
@@ -77,67 +75,34 @@ GOALS = (*call_goals(), *slot_goals(0), *slot_goals(1), *endpoint_goals())
 
 # What a log reaches
 
-def picture(endpoint):
-    """The endpoint as it is now, to be looked at after a call; the stores are not copied."""
-    kept = copy.copy(endpoint)
-    kept.jobs = list(endpoint.jobs)
-    return kept
-
-def is_paused(endpoint, slot):
-    return slot < 2 and endpoint.paused >> slot & 1
-
-def has_begun(endpoint, slot):
-    """Whether the slot has sent a packet of its response and has more to send."""
-    return getattr(endpoint.jobs[slot], "sent", 0) > 0
-
-def in_transmit(endpoint):
-    return [slot for slot in (0, 1) if endpoint.state(slot) == "Transmit"]
-
-def fault_of(rest):
-    """Why the first record of these bytes prints `bad`."""
-    if rest[0] not in LENGTHS:
-        return "an unknown tag"
-    if len(rest) < 3:
-        return "a cut record"
-    length = int.from_bytes(rest[1:3], "little")
-    if length > 4300:
-        return "a length over 4,300"
-    least, greatest = LENGTHS[rest[0]]
-    return "a cut record" if least <= length <= greatest else "a wrong length"
-
-class Run:
-    """One log under way: the lines that it printed, and what it reached."""
+class LogRun(Run):
+    """One log under way."""
 
     def __init__(self):
-        self.log = Log()
-        self.endpoint = self.log.endpoint
-        self.lines, self.reached = [], set()
+        super().__init__(Log(), {PACKET: self.received, POLL: self.polled, TIMEOUT: self.timed_out,
+                                 TAKE: self.taken, COMPLETE: self.completed, RESET: self.was_reset})
         self.shown = None             # (slot, word) of a Get State whose reply waits
         self.last_kind = None         # kind of the last packet handed out
         self.first_sequences = set()
-        self.notes = {PACKET: self.received, POLL: self.polled, TIMEOUT: self.timed_out,
-                      TAKE: self.taken, COMPLETE: self.completed, RESET: self.was_reset}
-
-    def note(self, text, when=True):
-        if when:
-            self.reached.add(text)
 
     def record(self, tag, body):
-        """Runs a record. Each kind has its notes, from the endpoint before, the record's bytes and
-        the printed line."""
-        before = picture(self.endpoint)
-        line = self.log.line(tag, body)
-        self.lines.append(line)
-        self.notes[tag](before, body, line)
+        super().record(tag, body)
         states = self.endpoint.state(0), self.endpoint.state(1)
         self.note("slots {} and {}".format(*states))
         for slot in (0, 1):
             self.note(f"slot {slot}: paused in {states[slot]}", is_paused(self.endpoint, slot))
 
-    def fault(self, rest):
-        """The rest of a log from a faulty record on."""
-        self.lines.append(self.log.line(None, None))
-        self.note(f"bad for {fault_of(rest)}")
+    def fault_of(self, rest):
+        """Why the first record of these bytes prints `bad`."""
+        if rest[0] not in LENGTHS:
+            return "an unknown tag"
+        if len(rest) < 3:
+            return "a cut record"
+        length = int.from_bytes(rest[1:3], "little")
+        if length > 4300:
+            return "a length over 4,300"
+        least, greatest = LENGTHS[rest[0]]
+        return "a cut record" if least <= length <= greatest else "a wrong length"
 
     # Receiving
 
@@ -277,7 +242,7 @@ class Run:
         self.note(f"slot {slot}: complete with {size} bytes", line in ("0", "35") and size in SIZES)
         self.note(f"slot {slot}: completed while paused", line == "0" and is_paused(before, slot))
         self.note(f"slot {slot}: stale ticket, {line}",
-                  line in ("31", "32") and slot in self.log.taken)
+                  line in ("31", "32") and slot in self.program.taken)
 
     def was_reset(self, before, _body, line):
         self.note(f"reset answers {line}")
@@ -287,11 +252,4 @@ class Run:
 
 def replay(log):
     """The Run of a whole log."""
-    run, at = Run(), 0
-    for tag, body in records(io.BytesIO(log)):
-        if tag is None:
-            run.fault(log[at:])
-        else:
-            run.record(tag, body)
-            at += 3 + len(body)
-    return run
+    return runs.replay(LogRun(), records, log)

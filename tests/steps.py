@@ -1,4 +1,4 @@
-"""Describes stored logs. A step of a log is records, and the lines that they have to print.
+"""Describes stored logs and scripts. A step of one is records, and the lines that they have to print.
 
 The lines are written by hand from the document. Packets and responses are put together here and not
 by the second program, so that the two can disagree; only the integrity check is shared.
@@ -6,13 +6,13 @@ by the second program, so that the two can disagree; only the integrity check is
 from records import FULL, POLL, ask, command, packet, packets
 from second.wire import GET_STATE, MI, sealed
 
-class Logs(dict):
-    """The logs of a folder: a name, and its records and lines."""
+class Described(dict):
+    """The logs or the scripts of a folder: a name, and its records and lines."""
 
-    def log(self, name, *steps):
+    def add(self, name, *steps):
         """A step is (records, expected lines); one record or line may stand without a list."""
         if name in self:
-            raise ValueError(f"two logs have the name {name}")
+            raise ValueError(f"the name {name} is there twice")
         records, lines = [], []
         for given, printed in steps:
             records += [given] if isinstance(given, bytes) else given
@@ -29,9 +29,9 @@ def start(slot=0, tag=1, **fields):
     return packets(command(100, slot, **fields), tag=tag)[0]
 
 # What a poll prints
-def sent(payload, som=1, eom=1, sequence=0, to=9, tag=1):
+def sent(payload, som=1, eom=1, sequence=0, to=9, tag=1, source=8):
     marks = som << 7 | eom << 6 | (sequence & 3) << 4 | tag
-    return "1 " + (bytes((1, to, 8, marks)) + payload).hex()
+    return "1 " + (bytes((1, to, source, marks)) + payload).hex()
 
 def response(body, slot=0, kind=MI):
     return sealed(bytes((0x84, 0x80 | kind << 3 | slot, 0, 0)) + body)

@@ -2,7 +2,7 @@
 
     python3 tests/second < LOG              the log program
     python3 tests/second calls < SCRIPT     the calls program
-    python3 tests/second bench              the examples of the bench, one line each
+    python3 tests/second bench              the lines of the bench
 
     wire       packets, messages and the integrity check, as bytes
     endpoint   what a slot holds, and the calls

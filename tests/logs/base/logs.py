@@ -1,14 +1,14 @@
 """The logs of document 01, the base.
 
-Each log shows one rule or refusal. 34, 36, 38 and 40 can't be shown by a log: the bench shows them.
+Each log shows one rule or refusal. 34, 36, 38 and 40 can't be shown by a log: scripts show them.
 """
 from records import (POLL, RESET, ask, command, complete, control, damaged, packet, packets, record, take,
                      timeout)
 from second.wire import ABORT, ADMIN, GET_STATE, MI, PAUSE, PCIE, RESUME
-from steps import BODY, MI_COMMAND, OTHER, Logs, answered, cut, replied, response, shows, start
+from steps import BODY, MI_COMMAND, OTHER, Described, answered, cut, replied, response, shows, start
 
-LOGS = Logs()
-log = LOGS.log
+LOGS = Described()
+log = LOGS.add
 LONG = command(4224, fill=bytes(range(251)))          # 66 full packets
 
 log("whole-case", (bytes.fromhex("010500010910c884"), 13), (POLL, 0), (timeout(0), 37))

@@ -1,0 +1,37 @@
+"""Lines of the calls program, for the descriptions of stored scripts; put together as `steps` does it."""
+from call_records import LOOK, receive, take
+from second.wire import crc32c
+from steps import MI_COMMAND, OTHER, response
+
+MEMORY = 4300
+
+# Steps that many scripts begin with
+WAITING = (receive(MI_COMMAND), 1),                   # a command of slot 0 is complete, not taken
+TAKEN = *WAITING, (take(), "0 1")
+OTHER_TAKEN = (receive(OTHER), 1), (take(1), "0 1")   # the same in slot 1
+
+# What a poll prints
+NOTHING, SHORT, WRONG_STORES = "0 stays", "36 stays", "40 stays"
+
+def polled(line):
+    """A line with which a log's poll hands out a packet, as the calls program has it."""
+    answer, packet = line.split()
+    return f"{answer} {len(packet) // 2} {packet} stays"
+
+# What a look prints
+def reply(cpsr, slot=0, to=9, tag=2):
+    """The reply to a control primitive of `ask` while it waits."""
+    return f"{to}:{tag}:" + response(bytes((0, 0x5A)) + cpsr.to_bytes(2, "little"), slot, 0).hex()
+
+def over(front, store):
+    """The bytes of a store after its front was overwritten."""
+    return front + store[len(front):]
+
+def looks(slot0="idle", slot1="idle", tickets=(0, 0), paused=(0, 0), busy=(0, 0), eid=8, flags=0, turn=0, last=0,
+          reply="-", store0=b"", store1=b"", lent=(4224, 4224)):
+    """A look, and its line: that of a new endpoint but for what is given. Stores hold zeros behind the
+    bytes that are given."""
+    check0, check1 = (crc32c(store.ljust(MEMORY, b"\0")[:length]) for store, length in zip((store0, store1), lent))
+    return LOOK, (f"eid={eid} unit=64 flags={flags:04x} turn={turn} last={last} reply={reply} "
+                  f"slot0={tickets[0]},{paused[0]},{busy[0]},{slot0} slot1={tickets[1]},{paused[1]},{busy[1]},{slot1} "
+                  f"check0={check0:08x} check1={check1:08x}")
