@@ -27,11 +27,13 @@ def over(front, store):
     """The bytes of a store after its front was overwritten."""
     return front + store[len(front):]
 
-def looks(slot0="idle", slot1="idle", tickets=(0, 0), paused=(0, 0), busy=(0, 0), eid=8, flags=0, turn=0, last=0,
-          reply="-", store0=b"", store1=b"", lent=(4224, 4224)):
+def looks(slot0="idle", slot1="idle", tickets=(0, 0), paused=(0, 0), busy=(0, 0), eid=8, flags=0, turn=0,
+          last=0, reply="-", store0=b"", store1=b"", lent=(4224, 4224)):
     """A look, and its line: that of a new endpoint but for what is given. Stores hold zeros behind the
     bytes that are given."""
-    check0, check1 = (crc32c(store.ljust(MEMORY, b"\0")[:length]) for store, length in zip((store0, store1), lent))
+    check0, check1 = (crc32c(store.ljust(MEMORY, b"\0")[:length])
+                      for store, length in zip((store0, store1), lent))
     return LOOK, (f"eid={eid} unit=64 flags={flags:04x} turn={turn} last={last} reply={reply} "
-                  f"slot0={tickets[0]},{paused[0]},{busy[0]},{slot0} slot1={tickets[1]},{paused[1]},{busy[1]},{slot1} "
+                  f"slot0={tickets[0]},{paused[0]},{busy[0]},{slot0} "
+                  f"slot1={tickets[1]},{paused[1]},{busy[1]},{slot1} "
                   f"check0={check0:08x} check1={check1:08x}")

@@ -133,7 +133,8 @@ def verdict(kind, stored, random, judged):
         return False
     lines = sum(result.lines for result in stored + random)
     goals = "every goal was reached" if judged else NOT_JUDGED
-    print(f"All {lines} lines of {len(stored)} stored and {len(random)} random {kind} are equal, and {goals}.")
+    print(f"All {lines} lines of {len(stored)} stored and {len(random)} random {kind} are equal, "
+          f"and {goals}.")
     return True
 
 # The command line
@@ -152,7 +153,8 @@ def arguments():
         name = subject.program.name
         parser.add_argument(f"--{kind}", metavar="N", type=number,
                             help=f"how many random {kind} ({subject.many}; in a quick run {subject.few})")
-        parser.add_argument(name, metavar=name.upper(), help=f"a program that reads {kind}, target/bin/{name}")
+        parser.add_argument(name, metavar=name.upper(),
+                            help=f"a program that reads {kind}, target/bin/{name}")
     parser.add_argument("--records", metavar="N", type=number,
                         help=f"records in each of them ({RECORDS}; in a quick run {FEW_RECORDS})")
     given = parser.parse_args()

@@ -314,7 +314,8 @@ def generate(seed, count):
     return generated(Generator(seed, count))
 
 def command_line(generate, what):
-    parser = argparse.ArgumentParser(description=f"Writes a random {what}; the same SEED and N give the same one.")
+    parser = argparse.ArgumentParser(
+        description=f"Writes a random {what}; the same SEED and N give the same one.")
     parser.add_argument("seed", metavar="SEED", type=int)
     parser.add_argument("count", metavar="N", type=int, help="how many records")
     parser.add_argument("out", metavar="OUT", type=argparse.FileType("wb"), help=f"the {what}'s file")

@@ -11,11 +11,12 @@ call, and the state is looked at often.
 import call_records
 import records
 from call_records import LOOK, RESET
-from generate import BODIES, LONG_BODIES, Generator, command_line, generated
+from generate import BODIES, Generator, command_line, generated
 from reached_calls import BUFFERS, EIDS, FAR_SLOTS, HIGH_PARTS, LENT, CallsRun
 from second import calls, log
+from second.calls import MEMORY
 from second.endpoint import BUFFER, STORE
-from second.wire import ABORT, GET_STATE, MI, PAUSE, sealed
+from second.wire import ABORT, GET_STATE, MI, PAUSE, PCIE, sealed
 
 FAR = (1 << 32) - 1
 OUR_EID = 8                     # the destination of the packets that `generate` chooses
@@ -49,8 +50,9 @@ class CallsGenerator(Generator):
         if tag == log.TIMEOUT:
             return call_records.timeout(self.far(body[0]))
         if tag == log.COMPLETE:
-            ticket = self.endpoint.counts[body[0]] if body[0] < 2 and not self.chance(8) else self.ticket(body[0])
-            return call_records.complete(ticket, body[1:], self.far(body[0]))
+            slot = body[0]
+            ticket = self.ticket(slot) if slot > 1 or self.chance(8) else self.endpoint.counts[slot]
+            return call_records.complete(ticket, body[1:], self.far(slot))
         return RESET if tag == log.RESET else record
 
     @property
@@ -65,10 +67,12 @@ class CallsGenerator(Generator):
 
     def far(self, slot):
         """The slot, or if there is none of this number, any number above 1."""
-        return slot if slot < 2 else self.random.choice((*FAR_SLOTS, slot, self.random.randrange(2, 1 << 32)))
+        if slot < 2:
+            return slot
+        return self.random.choice((*FAR_SLOTS, slot, self.random.randrange(2, 1 << 32)))
 
     def buffer(self):
-        return BUFFER if not self.chance(6) else self.random.choice((*BUFFERS, self.random.randrange(1 << 16)))
+        return self.random.choice((*BUFFERS, self.random.randrange(1 << 16))) if self.chance(6) else BUFFER
 
     def ticket(self, slot):
         """A ticket: given once, of the other slot, invented."""
@@ -126,9 +130,10 @@ class CallsGenerator(Generator):
         self.write(records.packets(records.command(130, slot), self.random.randrange(4), *self.key())[0])
 
     def first_packet(self, source, tag):
-        payload = bytearray(self.one_of(records.command(20, self.random.randrange(2)), records.control(GET_STATE),
+        slot = self.random.randrange(2)
+        payload = bytearray(self.one_of(records.command(20, slot), records.control(GET_STATE, slot),
                                         records.control(PAUSE, tag=self.random.randrange(256)),
-                                        records.command(self.random.choice((8, 64)), self.random.randrange(2), 4)))
+                                        records.command(self.random.choice((8, 64)), slot, PCIE)))
         if self.chance(6):
             payload[0] = 0x85
         if self.chance(6):
@@ -142,13 +147,14 @@ class CallsGenerator(Generator):
 
     def later_packet(self, source, tag, sequence):
         payload = self.random.randbytes(self.one_of(64, 0, 1, 63, 65))
-        self.faulty_header(payload, 0, self.chance(2), self.one_of(sequence, sequence + self.random.randrange(1, 4)),
-                           source, tag)
+        sequence = self.one_of(sequence, sequence + self.random.randrange(1, 4))
+        self.faulty_header(payload, 0, self.chance(2), sequence, source, tag)
 
     def faulty_header(self, payload, som, eom, sequence, source, tag):
         version = 1 if not self.chance(6) else self.random.choice((0, 2, 0xF2))
         destination = OUR_EID if not self.chance(6) else self.random.choice((0, 9, 255))
-        self.write(records.packet(payload, som, eom, sequence, source, tag, version, destination, to=not self.chance(6)))
+        self.write(records.packet(payload, som, eom, sequence, source, tag, version, destination,
+                                  to=not self.chance(6)))
 
     def any_call(self):
         self.random.choices((self.any_packet, self.any_take, self.any_read, self.any_complete, self.any_poll,
@@ -166,8 +172,8 @@ class CallsGenerator(Generator):
 
     def lend(self):
         """Lends stores of another length. What happens then is `lent_otherwise`."""
-        lengths = self.random.choice((*LENT, *LENT, (self.random.randrange(4301), STORE), (STORE, self.random.randrange(4301))))
-        self.write(call_records.stores(*lengths))
+        length = self.random.randrange(MEMORY + 1)
+        self.write(call_records.stores(*self.random.choice((*LENT, *LENT, (length, STORE), (STORE, length)))))
 
     def lent_otherwise(self):
         way = self.random.randrange(12)
@@ -202,7 +208,8 @@ class CallsGenerator(Generator):
         for record in (None, command, call_records.take(slot)):
             if record:
                 self.write(record)
-            self.write(call_records.complete(ticket, self.random.randbytes(self.random.choice(BODIES)), slot))
+            body = self.random.randbytes(self.random.choice(BODIES))
+            self.write(call_records.complete(ticket, body, slot))
 
     def abort(self, slot):
         return records.packet(records.control(ABORT, slot), source=77, tag=0)
@@ -212,7 +219,8 @@ class CallsGenerator(Generator):
         tag = self.random.choice(sorted(calls.LENGTHS))
         least, greatest = calls.LENGTHS[tag]
         return self.random.choice((
-            records.record(self.random.choice((0, 1, 6, 15, 26, 32, 48, 255)), bytes(self.random.randrange(5))),
+            records.record(self.random.choice((0, 1, 6, 15, 26, 32, 48, 255)),
+                           bytes(self.random.randrange(5))),
             records.record(tag, bytes(least - 1 if least and self.chance(2) else greatest + 1)),
             records.record(tag, bytes(self.random.choice((8193, 65535)))),
             call_records.stores(self.random.choice((4301, 65535)), STORE),

@@ -23,9 +23,10 @@ BEHIND = {
         "15 type": FIRST[1:], "16 first": ("15 ROR", "18", "19 primitive", "20"),
         "17": ("15 ROR", "18", "20"), "15 ROR": ("18", "19 primitive", "20", "19 one packet"),
         "18": ("19 primitive",), "19 primitive": (), "20": ("19 one packet",), "19 one packet": (),
-        "21": ("16 later",), "22": ("16 later", "23", "19 whole"), "16 later": ("23",), "23": (), "19 whole": ()},
+        "21": ("16 later",), "22": ("16 later", "23", "19 whole"), "16 later": ("23",), "23": (),
+        "19 whole": ()},
     "take": {"30": (), "31": ("33",), "33": ()},
-    # A command that was answered at once, or whose slot is Idle again, may never have been taken.
+    # A command that was answered at once was never taken.
     "complete": {STORES: ("30", "31", "32", "34", "35"), "30": ("35",), "31": ("32", "34", "35"),
                  "32": ("34", "35"), "34": ("35",), "35": ()},
     "poll": {STORES: ("36",), "36": ()},
@@ -40,18 +41,21 @@ def holding(*grounds):
 
 def receive_grounds(endpoint, memory, packet):
     """`memory` has the bytes of both stores, whatever is lent."""
-    found = holding((STORES, not endpoint.stores_fit()), ("10", len(packet) < 5), ("11", len(packet) > LONGEST_PACKET))
+    found = holding((STORES, not endpoint.stores_fit()), ("10", len(packet) < 5),
+                    ("11", len(packet) > LONGEST_PACKET))
     if len(packet) < 4:
         return found
     fields, payload = packet_fields(packet), packet[4:]
-    found += holding(("12", fields.version != 1), ("13", fields.destination != endpoint.eid), ("14", not fields.to))
+    found += holding(("12", fields.version != 1), ("13", fields.destination != endpoint.eid),
+                     ("14", not fields.to))
     if fields.som:
         return found + first_grounds(endpoint, fields, payload)
     return found + later_grounds(endpoint, memory, fields, payload)
 
 def first_grounds(endpoint, fields, payload):
     found = holding(("15 type", payload and payload[0] != 0x84),
-                    ("16 first", not fields.eom and len(payload) != PAYLOAD), ("17", fields.eom and len(payload) < 8))
+                    ("16 first", not fields.eom and len(payload) != PAYLOAD),
+                    ("17", fields.eom and len(payload) < 8))
     if len(payload) < 3:
         return found
     header = message_header(payload)

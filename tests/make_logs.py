@@ -39,7 +39,8 @@ def write(program, folder, found):
     """Writes the files, unless the folder has an input or an output that is not described."""
     for path in stored.files(program, folder):
         if path.name not in found:
-            sys.exit(f"{folder.name}/{path.name} is not described in {folder.name}/{program.kind}.py; remove it")
+            sys.exit(f"{folder.name}/{path.name} is not described in {folder.name}/{program.kind}.py; "
+                     f"remove it")
     for name, data in found.items():
         folder.joinpath(name).write_bytes(data)
 

@@ -7,8 +7,8 @@ import runs
 from grounds import (BEHIND, complete_grounds, poll_grounds, read_grounds, receive_grounds, take_grounds,
                      timeout_grounds)
 from runs import STATES, Run, is_paused
-from second.calls import (COMPLETE, LENGTH, LENGTHS, LONGEST_BODY, LOOK, NUMBER, POLL, READ, RECEIVE, RESET, SETUP,
-                          STORES, TAKE, TIMEOUT, TWO_LENGTHS, TWO_NUMBERS, Calls, records)
+from second.calls import (COMPLETE, LENGTH, LENGTHS, LONGEST_BODY, LOOK, MEMORY, NUMBER, POLL, READ, RECEIVE,
+                          RESET, SETUP, STORES, TAKE, TIMEOUT, TWO_LENGTHS, TWO_NUMBERS, Calls, records)
 from second.endpoint import STORE
 from second.wire import CONTROL, message_header, packet_fields
 
@@ -17,13 +17,16 @@ ANSWERS = {"receive": (0, 1, 2, *range(10, 24), 40), "take": (0, 30, 31, 33), "p
            "stores": (0,)}
 SLOT_CALLS = ("take", "read", "complete", "timeout")
 FAR_SLOTS = (2, (1 << 32) - 1)
-HIGH_PARTS = (1 << 8, 1 << 16, 1 << 31)         # added to a slot or to a ticket: other numbers with equal low bits
+HIGH_PARTS = (1 << 8, 1 << 16, 1 << 31)         # added to a slot or a ticket: the low bits stay equal
 BUFFERS = (0, 67, 68, 69, 65535)
 EIDS = {0: 38, 7: 38, 8: 0, 254: 0, 255: 38}
-LENT = ((STORE - 1, STORE), (STORE, STORE - 1), (STORE + 1, STORE), (STORE, STORE + 1), (0, 0), (4300, 4300), (0, STORE))
+LENT = ((STORE - 1, STORE), (STORE, STORE - 1), (STORE + 1, STORE), (STORE, STORE + 1), (0, 0),
+        (MEMORY, MEMORY), (0, STORE))
 WHICH = {(False, True): "store 0", (True, False): "store 1", (False, False): "both stores"}
 FLAG_BITS = (*range(4, 13), 14)
-FAULTS = ("an unknown tag", "a wrong length", "a body over 8,192", "a store above 4,300", "a cut head", "a cut body")
+TO_SEND = ("nothing", "a control reply", "a command packet")
+FAULTS = ("an unknown tag", "a wrong length", "a body over 8,192", "a store above 4,300", "a cut head",
+          "a cut body")
 
 # The goals
 
@@ -32,7 +35,8 @@ def ground_goals():
         for first, others in behind.items():
             yield f"{call}: {first} alone"
             yield from (f"{call}: {first} before {other}" for other in others)
-    yield from (f"receive: 40 alone, for {what}" for what in ("a primitive", "a first packet", "a later packet"))
+    yield from (f"receive: 40 alone, for {what}"
+                for what in ("a primitive", "a first packet", "a later packet"))
 
 def argument_goals():
     for call in SLOT_CALLS:
@@ -40,14 +44,16 @@ def argument_goals():
         for part in HIGH_PARTS:
             yield from (f"{call} with slot {part + slot} while slot {slot} would do" for slot in (0, 1))
     for length in BUFFERS:
-        yield from (f"poll with {length} bytes, {what} to send" for what in ("nothing", "a control reply", "a command packet"))
+        yield from (f"poll with {length} bytes, {what} to send" for what in TO_SEND)
     for eid, answer in EIDS.items():
         yield f"setup with EID {eid} answers {answer}"
     for first, second in LENT:
         yield f"stores of {first} and {second} lent"
     for which in WHICH.values():
-        yield from (f"{call} with {which} of another length" for call in ("receive", "complete", "poll", "read"))
-    yield from (f"{call} with stores of another length" for call in ("take 0", "timeout 0", "reset 0", "setup 0", "setup 38"))
+        yield from (f"{call} with {which} of another length"
+                    for call in ("receive", "complete", "poll", "read"))
+    yield from (f"{call} with stores of another length"
+                for call in ("take 0", "timeout 0", "reset 0", "setup 0", "setup 38"))
     yield "a packet for EID 8 while ours is another"
 
 def state_goals(slot, state):
@@ -94,12 +100,13 @@ class CallsRun(Run):
 
     def __init__(self):
         super().__init__(Calls(), {
-            SETUP: self.was_set_up, STORES: self.were_lent, RECEIVE: self.received, TAKE: self.taken, READ: self.was_read,
-            COMPLETE: self.completed, POLL: self.polled, TIMEOUT: self.timed_out, RESET: self.was_reset, LOOK: self.looked})
+            SETUP: self.was_set_up, STORES: self.were_lent, RECEIVE: self.received, TAKE: self.taken,
+            READ: self.was_read, COMPLETE: self.completed, POLL: self.polled, TIMEOUT: self.timed_out,
+            RESET: self.was_reset, LOOK: self.looked})
         self.was_taken = [False, False]         # whether the slot's last command was taken
         self.given = [set(), set()]             # tickets given since the last reset or setup
         self.over_reset, self.over_setup = [set(), set()], [set(), set()]
-        self.lent_otherwise = [False, False]    # whether stores of another length were lent since the slot was Idle
+        self.lent_otherwise = [False, False]    # whether other lengths were lent since the slot was Idle
 
     def record(self, tag, body):
         counts = list(self.endpoint.counts)
@@ -142,7 +149,8 @@ class CallsRun(Run):
         """The slot that was named; would_do says whether a slot would not have been refused."""
         self.note(f"{call} with slot {slot}", slot in FAR_SLOTS)
         low = slot & 1
-        self.note(f"{call} with slot {slot} while slot {low} would do", slot - low in HIGH_PARTS and would_do(low))
+        self.note(f"{call} with slot {slot} while slot {low} would do",
+                  slot - low in HIGH_PARTS and would_do(low))
 
     def stored(self, call, before, refused):
         """Which of the lent stores was the reason."""
@@ -175,7 +183,8 @@ class CallsRun(Run):
         if int(line) < 10:
             slots = [slot for slot in (0, 1) if self.endpoint.jobs[slot] is not before.jobs[slot]]
             for slot in slots:
-                self.note(f"slot {slot}: a packet joined after other lengths were lent", self.lent_otherwise[slot])
+                self.note(f"slot {slot}: a packet joined after other lengths were lent",
+                          self.lent_otherwise[slot])
             return
         grounds = receive_grounds(before, self.program.memory, packet)
         self.answered("receive", grounds, line)
@@ -208,7 +217,8 @@ class CallsRun(Run):
             raise ValueError(f"read prints {line}, but its grounds are {grounds}")
         self.stored("read", before, "stores" in grounds)
         self.named("read", slot, lambda low: not read_grounds(before, low))
-        self.note(f"slot {slot}: a part read after other lengths were lent", part and self.lent_otherwise[slot])
+        self.note(f"slot {slot}: a part read after other lengths were lent",
+                  part and self.lent_otherwise[slot])
 
     def completed(self, before, data, line):
         slot, ticket = TWO_NUMBERS.unpack(data[:8])
@@ -219,14 +229,16 @@ class CallsRun(Run):
                    lambda low: not complete_grounds(before, self.was_taken, low, ticket, data[8:]))
         if slot < 2 and line != "40":
             self.ticket_used(before, slot, ticket, line)
-            self.note(f"slot {slot}: completed after other lengths were lent", line == "0" and self.lent_otherwise[slot])
+            self.note(f"slot {slot}: completed after other lengths were lent",
+                      line == "0" and self.lent_otherwise[slot])
 
     def ticket_used(self, before, slot, ticket, line):
         present, others = before.counts[slot], before.counts[1 - slot]
         which = "the present" if ticket == present else "another"
         self.note(f"slot {slot}: {which} ticket in {before.state(slot)}")
         self.note(f"slot {slot}: a ticket that no command had, {line}", ticket > max(present, others))
-        self.note(f"slot {slot}: the other slot's ticket, {line}", ticket == others and ticket in self.given[1 - slot])
+        self.note(f"slot {slot}: the other slot's ticket, {line}",
+                  ticket == others and ticket in self.given[1 - slot])
         self.note(f"slot {slot}: the present ticket plus {ticket - present}, {line}")
         self.note(f"slot {slot}: a ticket kept over reset, {line}", ticket in self.over_reset[slot])
         self.note(f"slot {slot}: a ticket kept over setup, {line}",
@@ -243,7 +255,8 @@ class CallsRun(Run):
             self.note(f"poll with {length} bytes, a control reply to send", before.reply is not None)
             self.note(f"poll with {length} bytes, a command packet to send", ready is not None)
         if answer == "1" and self.endpoint.reply is before.reply:
-            self.note(f"slot {ready}: a packet sent after other lengths were lent", self.lent_otherwise[ready])
+            self.note(f"slot {ready}: a packet sent after other lengths were lent",
+                      self.lent_otherwise[ready])
 
     def timed_out(self, before, body, line):
         slot, = NUMBER.unpack(body)

@@ -1,4 +1,6 @@
-"""A second program for the two-slot endpoint, its log program and its calls program, from the documents alone.
+"""A second program for the two-slot endpoint, its log program and its calls program.
+
+It is written from document 01 and the page of the calls program alone.
 
     python3 tests/second < LOG              the log program
     python3 tests/second calls < SCRIPT     the calls program

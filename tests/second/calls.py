@@ -2,8 +2,8 @@
 import functools
 import struct
 
-from second.endpoint import (ENDPOINT_BITS, SLOT_BIT, STORE, Answered, Endpoint, Idle, Process, Receive, Ticket,
-                             Transmit)
+from second.endpoint import (ENDPOINT_BITS, SLOT_BIT, STORE, Answered, Endpoint, Idle, Process, Receive,
+                             Ticket, Transmit)
 from second.framing import framed
 from second.wire import PAYLOAD, crc32c
 
