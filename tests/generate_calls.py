@@ -131,12 +131,12 @@ class CallsGenerator(Generator):
 
     def first_packet(self, source, tag):
         slot = self.random.randrange(2)
-        payload = bytearray(self.one_of(records.command(20, slot), records.control(GET_STATE, slot),
-                                        records.control(PAUSE, tag=self.random.randrange(256)),
-                                        records.command(self.random.choice((8, 64)), slot, PCIE)))
+        payload = bytearray(self.random.choice((records.command(20, slot), records.control(GET_STATE, slot),
+                                                records.control(PAUSE, tag=self.random.randrange(256)),
+                                                records.command(self.random.choice((8, 64)), slot, PCIE))))
         if self.chance(6):
             payload[0] = 0x85
-        if self.chance(6):
+        if self.chance(4):
             payload[1] |= 0x80                              # ROR
         size = self.one_of(len(payload), 0, 1, 7, 12, 13, 64, 65, 70)
         payload = (payload[:-4] + bytes(80))[:max(size - 4, 0)]

@@ -91,9 +91,9 @@ script("look-pause", *TAKEN, (receive(ask(PAUSE)), 2),
              store1=OTHER_REQUEST), (receive(ask(RESUME)), 2),
        looks(slot1=OTHER_WAITS, tickets=(1, 1), reply=reply(0), store0=REQUEST, store1=OTHER_REQUEST))
 script("look-reset", *TAKEN, (complete(1, bytes(57)), 0), (poll(), polled(cut(TWO)[0])), *OTHER_TAKEN,
-       (receive(packet(REQUEST, tag=4)), 20), (receive(packet(REQUEST, to=0)), 14), (receive(ask(PAUSE)), 2),
-       (poll(), polled(replied(3))), (receive(ask(PAUSE)), 2),
-       looks("transmit:9:1:65:1", OTHER_IS_TAKEN, tickets=(1, 1), paused=(1, 1), busy=(1, 0), flags=0x1000,
+       (receive_all([packet(REQUEST, tag=4), packet(OTHER_REQUEST, tag=4), packet(REQUEST, to=0)]),
+        [20, 20, 14]), (receive(ask(PAUSE)), 2), (poll(), polled(replied(3))), (receive(ask(PAUSE)), 2),
+       looks("transmit:9:1:65:1", OTHER_IS_TAKEN, tickets=(1, 1), paused=(1, 1), busy=(1, 1), flags=0x1000,
              turn=1, last=1, reply=reply(3), store0=over(TWO, REQUEST), store1=OTHER_REQUEST), (RESET, 0),
        looks(tickets=(1, 1), flags=0x4000, store0=over(TWO, REQUEST), store1=OTHER_REQUEST), (RESET, 0))
 script("look-refused-writes-nothing", (receive(packet(b"\x85" + REQUEST[1:])), 15),
