@@ -20,8 +20,10 @@ from second.wire import ABORT, GET_STATE, MI, PAUSE, PCIE, sealed
 
 FAR = (1 << 32) - 1
 OUR_EID = 8                     # the destination of the packets that `generate` chooses
+UNKNOWN = [tag for tag in range(256) if tag not in calls.LENGTHS]
 
 class CallsGenerator(Generator):
+    """Chooses the records of a script."""
     new_run = CallsRun
     one_in_faulty = 2
 
@@ -165,13 +167,14 @@ class CallsGenerator(Generator):
         """A message whose assembly has ended is not sent to its end: a script has more to try."""
         return sender.key not in self.endpoint.gathering and not self.chance(4)
 
-    # Setups, stores, and a message that is too long
+    # Longer stretches: setups, stores of another length, a message that is too long, tickets that are kept
     def setup(self):
+        """A setup in the middle, mostly with an EID at a bound."""
         eid = self.random.choice((*EIDS, OUR_EID, OUR_EID, self.random.randrange(256)))
         self.write(call_records.setup(eid))
 
     def lend(self):
-        """Lends stores of another length. What happens then is `lent_otherwise`."""
+        """Lends stores of another length; `lent_otherwise` says what is done until they are right again."""
         length = self.random.randrange(MEMORY + 1)
         self.write(call_records.stores(*self.random.choice((*LENT, *LENT, (length, STORE), (STORE, length)))))
 
@@ -219,8 +222,7 @@ class CallsGenerator(Generator):
         tag = self.random.choice(sorted(calls.LENGTHS))
         least, greatest = calls.LENGTHS[tag]
         return self.random.choice((
-            records.record(self.random.choice((0, 1, 6, 15, 26, 32, 48, 255)),
-                           bytes(self.random.randrange(5))),
+            records.record(self.random.choice(UNKNOWN), bytes(self.random.randrange(5))),
             records.record(tag, bytes(least - 1 if least and self.chance(2) else greatest + 1)),
             records.record(tag, bytes(self.random.choice((8193, 65535)))),
             call_records.stores(self.random.choice((4301, 65535)), STORE),
