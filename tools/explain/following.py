@@ -1,0 +1,209 @@
+"""What happened at a record: the answer that was printed, and the slots before and after.
+
+A log has no states in it. They are followed with the second program (tests/second/), which is given every record; where it would have
+answered otherwise, the event says so and no ground is told from its slots.
+"""
+from collections import namedtuple
+
+from second.endpoint import Receive, Transmit
+from second.log import COMPLETE, PACKET, POLL, RESET, TAKE, TIMEOUT, Log
+from second.wire import CONTROL, GET_STATE, PAUSE, RESUME, control_request, message_header, packet_fields
+
+from .names import DONE, REFUSALS
+
+# The slots and what belongs to both, as the second program has them. words: what Get State would report for each slot
+View = namedtuple("View", "jobs states paused words counts reply")
+
+# A control primitive that was answered: the record that brought it, and the body of the reply that then waited
+Primitive = namedtuple("Primitive", "record opcode slot who tag cpsp body")
+
+REQUEST = 0x84              # the first byte of every NVMe-MI message with an integrity check
+HEADER = 4                  # bytes of a packet's header, and of a message's
+
+
+class Event:
+    """A record with its answer. `named` is the slot that it names and `slots` are all that it is about; `who` is the requester, (EID, tag),
+    or None. `ended` is the slot whose assembly a first packet ended. `primitive` is the control primitive that came or whose reply goes;
+    `replaced` is the one whose reply was replaced before it went. `ticket` is the one that a take gave or a complete used, `taken_at`
+    the record of its take. `message` is a whole message whose check is wrong, `at_once` the body that answered a command on entering
+    Process."""
+
+    def __init__(self, record, line, before):
+        self.record, self.line, self.before, self.after = record, line, before, before
+        self.number, self.tag, self.body = record.number, record.tag, record.body
+        self.answer, self.sent = read_line(record.tag, line)
+        self.expected = None
+        self.fields = self.head = self.payload = None
+        self.named = self.who = self.ended = self.primitive = self.replaced = self.ticket = self.taken_at = None
+        self.message = self.at_once = None
+        self.slots = frozenset()
+
+    @property
+    def refused(self):
+        return self.answer in REFUSALS
+
+    @property
+    def differs(self):
+        """Whether the second program would have answered otherwise."""
+        return self.expected != self.line
+
+    @property
+    def known(self):
+        """Whether the line is one that the log program can print for this record."""
+        return self.line == "bad" if self.tag is None else self.answer in REFUSALS or self.answer in DONE[self.tag]
+
+
+def read_line(tag, line):
+    """Number and packet of a printed line; None and no packet if it can't be read so."""
+    answer, _, packet = line.partition(" ")
+    try:
+        number, sent = int(answer), bytes.fromhex(packet)
+    except ValueError:
+        return None, b""
+    whole = len(sent) > HEADER if tag == POLL and number == 1 else not sent
+    return (number, sent) if whole else (None, b"")
+
+
+def header_of(payload):
+    """The message header, as far as it is there; None where the first two bytes are not those of an NVMe-MI message."""
+    if len(payload) < 2 or payload[0] != REQUEST:
+        return None
+    return message_header(bytes(payload[:HEADER]) + bytes(HEADER))
+
+
+class Follower:
+    """Follows a log with the second program. Its memory is the endpoint, and what the last take and the last primitive were."""
+
+    def __init__(self):
+        self.log = Log()
+        self.endpoint = self.log.endpoint
+        self.view = self.look()
+        self.waiting = None                     # the primitive whose reply waits
+        self.taken_at = {}                      # by slot, the record of the last take that gave a ticket
+
+    def look(self):
+        endpoint = self.endpoint
+        return View(tuple(endpoint.jobs), (endpoint.state(0), endpoint.state(1)), endpoint.paused,
+                    (endpoint.flags_word(0), endpoint.flags_word(1)), tuple(endpoint.counts), endpoint.reply)
+
+    def event(self, record, line):
+        """Lets the second program do what the record says."""
+        event = Event(record, line, self.view)
+        if record.tag is None:
+            event.expected = "bad"
+            return event
+        if record.tag == COMPLETE:
+            event.ticket, event.taken_at = self.log.ticket(record.body[0]).number, self.taken_at.get(record.body[0])
+        event.expected = str(self.log.line(record.tag, record.body))
+        event.after = self.view = self.look()
+        DETAILS[record.tag](self, event)
+        event.slots |= moved(event)
+        return event
+
+    def packet(self, event):
+        if len(event.body) >= HEADER:
+            event.fields, event.payload = packet_fields(event.body), event.body[HEADER:]
+            event.who = event.fields.source, event.fields.tag
+        if event.expected in ("10", "11", "12", "13", "14"):    # refused before the message is looked at
+            return
+        gathering = gathers(event.before, event.who)
+        if event.fields.som:
+            event.ended, event.head = gathering, header_of(event.payload)
+            event.named = event.head.csi if event.head else None
+        else:
+            event.named = gathering
+        event.slots = only(event.named)
+        if event.expected in WHOLE:
+            WHOLE[event.expected](self, event)
+
+    def entered(self, event):
+        """A command entered Process; where a test failed, its response is there already."""
+        if event.after.states[event.named] in ("Process answered", "Transmit"):
+            event.at_once = bytes(self.endpoint.stores[event.named][HEADER:2 * HEADER])
+
+    def wrong_check(self, event):
+        """A command that is refused for its check stays in the store."""
+        if event.head and event.head.nmimt == CONTROL:
+            event.message = bytes(event.payload)
+        else:
+            before = 0 if event.fields.som else event.before.jobs[event.named].length
+            event.message = bytes(self.endpoint.stores[event.named][:before + len(event.payload)])
+
+    def control(self, event):
+        request = control_request(event.payload)
+        event.replaced = self.waiting
+        event.primitive = self.waiting = Primitive(event.number, request.opcode, event.head.csi, event.who, request.tag, request.cpsp,
+                                                   event.after.reply[1][HEADER:-HEADER])
+        if request.opcode in (PAUSE, RESUME):                   # "CSI is ignored by both"
+            event.slots = frozenset((0, 1))
+
+    def poll(self, event):
+        if not event.sent:
+            return
+        event.fields, event.payload = packet_fields(event.sent), event.sent[HEADER:]
+        event.who = event.fields.destination, event.fields.tag
+        event.head = header_of(event.payload) if event.fields.som else None
+        if event.head and event.head.nmimt == CONTROL:
+            event.named, event.primitive, self.waiting = event.head.csi, self.waiting, None
+        else:
+            event.named = next((slot for slot in (0, 1) if event.before.jobs[slot] is not event.after.jobs[slot]), None)
+        event.slots = only(event.named)
+
+    def on_slot(self, event):
+        """A timeout, take or complete: about the command that its slot has."""
+        event.named = event.body[0]
+        event.slots = only(event.named)
+        if event.named < 2:
+            event.who = getattr(event.before.jobs[event.named], "who", None)
+
+    def take(self, event):
+        self.on_slot(event)
+        if event.expected == "0":
+            self.taken_at[event.named] = event.number
+            event.ticket = event.after.counts[event.named]
+
+    def reset(self, event):
+        event.slots = frozenset((0, 1))
+        event.replaced, self.waiting = self.waiting, None
+
+
+# What to look at when a message is whole, by the answer
+WHOLE = {"1": Follower.entered, "2": Follower.control, "19": Follower.wrong_check}
+
+DETAILS = {PACKET: Follower.packet, POLL: Follower.poll, TIMEOUT: Follower.on_slot, TAKE: Follower.take,
+           COMPLETE: Follower.on_slot, RESET: Follower.reset}
+
+
+def only(slot):
+    return frozenset() if slot is None else frozenset((slot,))
+
+
+def gathers(view, who):
+    """The slot that is in Receive with this source and tag, or None."""
+    return next((slot for slot, job in enumerate(view.jobs) if isinstance(job, Receive) and job.who == who), None)
+
+
+def moved(event):
+    """The slots that are otherwise after the record."""
+    before, after = event.before, event.after
+    return frozenset(slot for slot in (0, 1)
+                     if before.states[slot] != after.states[slot] or (before.paused ^ after.paused) >> slot & 1)
+
+
+def is_paused(view, slot):
+    return bool(view.paused >> slot & 1)
+
+
+def left_for_idle(event, slot):
+    """Whether what the slot held was given up at this record, also if it began anew within it."""
+    return event.before.states[slot] != "Idle" and (event.after.states[slot] == "Idle" or event.ended == slot)
+
+
+def packets_of(job):
+    """Packets that a response has, and how many went."""
+    length, sent = (job.length, job.sent) if isinstance(job, Transmit) else (job.response, 0)
+    return -(-length // 64), sent
+
+
+def is_get_state(primitive):
+    return primitive.opcode == GET_STATE
