@@ -197,14 +197,18 @@ def ground_no_command(event):
     used = f"; {ticket_words(event)}" if event.tag == COMPLETE else ""
     if state == "Process answered":
         return f"slot {event.named} is in Process, and its response is there{used}"
-    return f"slot {event.named} is not in Process: it is in {state}{used}"
+    return f"slot {event.named} is not in Process: it is {in_state(state)}{used}"
 
 
 def ground_timeout(event):
     state = event.before.states[event.named]
     if state == "Receive":
         return f"slot {event.named} is in Receive, and its pause flag is set"
-    return f"slot {event.named} is not in Receive: it is in {STATES[state]}"
+    return f"slot {event.named} is not in Receive: it is {in_state(state)}"
+
+
+def in_state(state):
+    return state if state == "Idle" else f"in {STATES[state]}"
 
 
 GROUNDS = {
