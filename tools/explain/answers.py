@@ -31,13 +31,16 @@ class Answers:
 
 def stored(path):
     """Answers that the log program printed before, in a file."""
-    def source(log):
-        try:
-            lines = open(path, encoding="ascii", errors="replace")
-        except OSError as error:
-            raise Trouble(f"{path} can't be read: {error.strerror}") from None
-        return Answers(io.BufferedReader(log, CHUNK), (line.rstrip("\n") for line in lines), str(path))
-    return source
+    return lambda log: Answers(io.BufferedReader(log, CHUNK), lines_in(path), str(path))
+
+
+def lines_in(path):
+    try:
+        with open(path, encoding="ascii", errors="replace") as lines:
+            for line in lines:
+                yield line.rstrip("\n")
+    except OSError as error:
+        raise Trouble(f"{path} can't be read: {error.strerror}") from None
 
 
 def program(command):
@@ -90,6 +93,7 @@ class Program(Answers):
         if self.child.poll() is None:
             self.child.terminate()
             self.child.wait()
+        self.child.stdout.close()
 
 
 class Backlog(io.RawIOBase):
@@ -138,6 +142,11 @@ class Backlog(io.RawIOBase):
         room[:len(part)] = part
         self.front = self.front[len(part):]
         return len(part)
+
+    def close(self):
+        if self.file:
+            self.file.close()
+        super().close()
 
     def next(self):
         chunk = self.chunks.get()

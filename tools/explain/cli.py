@@ -2,6 +2,7 @@
 import argparse
 import os
 import pathlib
+import stat
 import sys
 
 from .answers import Trouble, program, stored
@@ -20,8 +21,9 @@ The answers are the log program's own: ./mi-log is run on the log, and proves an
 the slots are is not in a log, so it is followed with the second program of tests/; a line with !! says so if that program would have
 answered otherwise.
 
---slot, --source and --refusals can be combined; a record is shown if all of them want it. The slots are followed through all records, and
-records keep their numbers in the whole log. The summary is of the whole log.
+--slot, --source, --from, --to and --refusals can be combined; a record is shown if all of them want it. The slots are followed through all
+records, and records keep their numbers in the whole log. The summary is of the whole log. A page of more than some 50,000 records is slow in
+a browser: choose some of them.
 
 --json prints an object for each record:
   record       its number in the log, from 1
@@ -58,6 +60,8 @@ def parser():
     found.add_argument("--slot", metavar="N", type=byte, help="only records that are about this slot or change it")
     found.add_argument("--source", metavar="EID", type=byte, help="only records of this requester: its packets, what is sent to it, "
                        "and takes, completes and timeouts of its commands")
+    found.add_argument("--from", dest="first", metavar="N", type=int, help="only records from this number on")
+    found.add_argument("--to", dest="last", metavar="N", type=int, help="only records up to this number")
     found.add_argument("--refusals", action="store_true", help="only records that were refused, and a faulty one")
     found.add_argument("--summary", action="store_true", help="only the summary")
     form = found.add_mutually_exclusive_group()
@@ -71,6 +75,8 @@ def is_wanted(given, event):
     """Whether the filters want the record shown."""
     return ((given.slot is None or given.slot in event.slots)
             and (given.source is None or event.who is not None and event.who[0] == given.source)
+            and (given.first is None or given.first <= event.number)
+            and (given.last is None or event.number <= given.last)
             and (not given.refusals or event.refused or event.tag is None)
             and not given.summary)
 
@@ -92,17 +98,26 @@ def events(answers):
 def explain(given, log, source, write):
     """Explains a log, a raw stream, with the answers of a source; gives the summary."""
     answers = source(log)
-    summary, form = Summary(), (given.form or Text)(write)
+    summary, form = Summary(size_of(log)), (given.form or Text)(write)
     try:
         form.begin(given.log)
         for event in events(answers):
             summary.add(event)
             if is_wanted(given, event):
                 form.event(event)
-        form.end(summary, alone=given.summary)
+        form.end(summary)
     finally:
         answers.close()
     return summary
+
+
+def size_of(log):
+    """How many bytes the log has; None for one that comes through a pipe."""
+    try:
+        found = os.fstat(log.fileno())
+    except OSError:
+        return None
+    return found.st_size if stat.S_ISREG(found.st_mode) else None
 
 
 def opened(name):
@@ -117,8 +132,6 @@ def run(given, source=None):
     """Explains what the command line asks for; the status to end with."""
     if source is None:
         source = stored(given.answers) if given.answers else program(ROOT / "mi-log")
-    if sys.stdout is None:
-        raise Trouble("there is no standard output")
     sys.stdout.reconfigure(encoding="utf-8")
     try:
         summary = explain(given, opened(given.log), source, sys.stdout.write)
@@ -135,6 +148,8 @@ def run(given, source=None):
 
 def main(arguments=None, source=None):
     """The whole tool; gives the status."""
+    if sys.stdout is None:
+        sys.exit("explain.py: there is no standard output")
     try:
         return run(parser().parse_args(arguments), source)
     except Trouble as trouble:
@@ -153,7 +168,7 @@ def quiet_flush():
     """Puts out what was explained before the trouble, if that can be done."""
     try:
         sys.stdout.flush()
-    except (OSError, AttributeError):
+    except OSError:
         silence()
 
 

@@ -129,7 +129,7 @@ class Page:
         self.write(row(event, self.rows % LETTER_EACH == 0))
         self.rows += 1
 
-    def end(self, summary, alone=False):
+    def end(self, summary):
         self.write("</section>\n" if self.rows else "<p>No record is shown.</p>\n")
         script = (HERE / "page.js").read_text(encoding="utf-8")
         self.write(f'</main>\n<div id="summary">\n{"".join(cards(summary))}</div>\n<script>\n{script}</script>\n</body>\n</html>\n')
@@ -205,8 +205,7 @@ def short_words(event):
 
 def plain_answer(event):
     """The answer's words without its number."""
-    words = answer_words(event)
-    return words.split(", " if event.tag is not None else ": ", 1)[1]
+    return answer_words(event).split(": " if event.line == "bad" and event.tag is None else ", ", 1)[1]
 
 
 def packet_label(event):
@@ -278,8 +277,7 @@ def pair(name, value):
 
 
 def log_rows(summary):
-    kinds = ", ".join(count(summary.kinds[tag], name) for tag, name in KINDS.items() if summary.kinds[tag])
-    yield pair("records", f"{number(summary.records)}{': ' + kinds if kinds else ''}")
+    yield pair("records", f"{number(summary.records)}: {summary.kind_words()}")
     yield pair("bytes", f"{number(summary.log_bytes)} of log; packets {number(summary.bytes['in'])} in ({number(summary.bytes['refused'])} refused), "
                f"{number(summary.bytes['out'])} out; {number(summary.bytes['bodies'])} in bodies from the drive")
     if summary.longest_wait:

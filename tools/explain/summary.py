@@ -24,9 +24,10 @@ class Slot:
 
 
 class Summary:
-    """Takes in events one by one."""
+    """Takes in events one by one. `size` is the log's, None where it isn't known."""
 
-    def __init__(self):
+    def __init__(self, size=None):
+        self.size = size
         self.kinds, self.answers, self.first, self.primitives = Counter(), Counter(), {}, Counter()
         self.bytes = Counter()
         self.requesters = {}
@@ -86,11 +87,11 @@ class Summary:
     # Commands
 
     def follow(self, event):
-        """What the record did to the commands of both slots."""
-        if event.tag == PACKET and event.answer == 1 and event.named is not None:
+        """What the record did to the commands of both slots, by the second program, which has the slots."""
+        if event.tag == PACKET and event.expected == "1":
             self.slots[event.named].commands += 1
             self.slots[event.named].at_once += event.at_once is not None
-        if event.tag == COMPLETE and event.answer == 0:
+        if event.tag == COMPLETE and event.expected == "0":
             self.slots[event.named].completed += 1
         for index, slot in enumerate(self.slots):
             if left_for_idle(event, index):
@@ -158,7 +159,9 @@ class Summary:
         if self.differ:
             yield f"at {count(self.differ, 'record')} the second program answers otherwise, first at record {self.first_difference}"
         if self.fault:
-            yield f"the log ends with a faulty record at byte {number(self.fault.record.offset)}: {self.fault.record.fault}"
+            behind = (self.size or 0) - self.log_bytes
+            unread = f"; the {count(behind, 'byte')} behind it are not read" if behind > 0 else ""
+            yield f"the log ends with a faulty record at byte {number(self.fault.record.offset)}: {self.fault.record.fault}{unread}"
         for answer, (times, first) in self.refusals.items():
             yield f"refused {count(times, 'time')} with {answer}, first at record {first}: {REFUSALS[answer]}"
         for index, slot in enumerate(self.slots):
@@ -216,8 +219,7 @@ class Summary:
     def words(self):
         """The summary as lines of text."""
         yield "Summary"
-        yield f"  {count(self.records, 'record')}, {count(self.log_bytes, 'byte')}: " + (listed(
-            f"{count(self.kinds[tag], name, PLURAL[name])}" for tag, name in KINDS.items() if self.kinds[tag]) or "the log is empty")
+        yield f"  {count(self.records, 'record')}, {count(self.log_bytes, 'byte')}: {self.kind_words()}"
         yield from self.answer_words()
         yield from self.byte_words()
         for index in (0, 1):
@@ -226,6 +228,10 @@ class Summary:
         remarks = list(self.remarks())
         yield "To look at" if remarks else "Nothing to look at: nothing was refused, every command was answered"
         yield from (f"  {remark}" for remark in remarks)
+
+    def kind_words(self):
+        found = [count(self.kinds[tag], name) for tag, name in KINDS.items() if self.kinds[tag]]
+        return listed(found + ["1 faulty record"] * (self.fault is not None)) or "the log is empty"
 
     def answer_words(self):
         if self.answers:
@@ -264,9 +270,6 @@ class Summary:
                    f"(slot {slot}, ticket {number(ticket)}, records {start} to {end})")
         if self.longest_pause:
             yield "Longest pause: {} (records {} to {})".format(count(self.longest_pause[0], "record"), *self.longest_pause[1:])
-
-
-PLURAL = {"packet": "packets", "poll": "polls", "timeout": "timeouts", "take": "takes", "complete": "completes", "reset": "resets"}
 
 
 def named(values, names):

@@ -17,11 +17,13 @@ class Text:
 
     def __init__(self, write):
         self.write = write
+        self.shown = False
 
     def begin(self, title):
         pass
 
     def event(self, event):
+        self.shown = True
         lines = ["; ".join(record_words(event)), f"-> {answer_words(event)}", *(f"   {words}" for words in effect_words(event))]
         if event.differs:
             lines.append(f"!! the second program answers {event.expected}")
@@ -30,8 +32,8 @@ class Text:
         self.write(f"{event.number:6}  byte {number(event.record.offset)} ({event.record.offset:x}h): {lines[0]}\n")
         self.write("".join(f"{INDENT}{line}\n" for line in lines[1:]))
 
-    def end(self, summary, alone=False):
-        self.write(("" if alone else "\n") + "".join(f"{line}\n" for line in summary.words()))
+    def end(self, summary):
+        self.write(("\n" if self.shown else "") + "".join(f"{line}\n" for line in summary.words()))
 
 
 class Json:
@@ -58,7 +60,7 @@ class Json:
             "reply_waits": event.after.reply is not None,
         })
 
-    def end(self, summary, alone=False):
+    def end(self, summary):
         self.put({"summary": summary.data()})
 
     def put(self, found):

@@ -88,10 +88,10 @@ def size_words(there, eom):
 
 def answer_words(event):
     """The printed line in words, with the ground of a refusal."""
+    if not event.known:
+        return f"{event.line!r}, which is no line for a {KINDS.get(event.tag, 'faulty record')}"
     if event.tag is None:
         return f"bad: {event.record.fault}"
-    if not event.known:
-        return f"{event.line!r}, which is no line for a {KINDS[event.tag]}"
     if event.refused:
         return f"{event.answer}, {REFUSALS[event.answer] if event.differs else ground(event)}"
     if event.sent:
@@ -248,18 +248,17 @@ def status_words(body):
 
 def sent_words(event):
     """What a packet of ours carries."""
+    if event.differs:
+        return "which is not what the second program sends"
     if event.head and event.head.nmimt == CONTROL:
         asked = event.primitive
-        return f"the reply to {primitive_name(asked)} of record {asked.record}: {reply_words(asked)}" if asked else "a control reply"
-    part = ""
-    if event.named is not None and isinstance(event.before.jobs[event.named], Transmit):
-        packets, sent = packets_of(event.before.jobs[event.named])
-        part = f"packet {sent + 1} of {packets} of "
+        return f"the reply to {primitive_name(asked)} of record {asked.record}: {reply_words(asked)}"
+    packets, sent = packets_of(event.before.jobs[event.named])
+    part = f"packet {sent + 1} of {packets} of "
     if not event.fields.som:
         return f"{part}the response of slot {event.named}"
-    kind = MESSAGES.get(event.head.nmimt, f"command of unknown kind (NMIMT {event.head.nmimt})") if event.head else "message"
-    status = f", status {status_words(event.payload[HEADER:])}" if len(event.payload) >= 8 else ""
-    return f"{part}the response of slot {event.named} to its {kind}{status}"
+    kind = MESSAGES.get(event.head.nmimt, f"command of unknown kind (NMIMT {event.head.nmimt})")
+    return f"{part}the response of slot {event.named} to its {kind}, status {status_words(event.payload[HEADER:])}"
 
 
 def primitive_name(primitive):
