@@ -16,6 +16,7 @@ import subprocess
 import sys
 import tempfile
 import unittest
+from unittest import mock
 
 TESTS = pathlib.Path(__file__).resolve().parent
 TOOL = TESTS.parent / "tools" / "explain.py"
@@ -90,7 +91,8 @@ class ShortPayloads(Case):
                 self.assertNotIn("no NVMe-MI message", last([packet(payload)]))
 
     def test_not_the_last(self):
-        self.says([packet(b"\x84", eom=0)], "this 1 byte is there", "16, EOM 0, and the payload is 1 byte and not 64", "sets flag bit 9")
+        self.says([packet(b"\x84", eom=0)], "this 1 byte is there", "16, EOM 0, and the payload is 1 byte and not 64",
+                  "sets flag bit 9")
 
     def test_below_a_header(self):
         self.says([record(1)], "packet of 0 bytes, nothing is there", "10, the packet has 0 bytes")
@@ -162,7 +164,8 @@ class Grounds(Case):
 class Tickets(Case):
     def test_complete(self):
         self.says([*WAITING, complete(BODY)], "0, completed: it used ticket 1, taken at record 2; the slot's present one is 1")
-        self.says([packet(command()), complete(BODY)], "32, ", "it used ticket 0, since none was taken there; the slot's present one is 1")
+        self.says([packet(command()), complete(BODY)], "32, ",
+                  "it used ticket 0, since none was taken there; the slot's present one is 1")
         self.says([*WAITING, ask(ABORT), packet(command()), complete(BODY)], "32, ",
                   "it used ticket 1, taken at record 2; the slot's present one is 2")
         self.says([*WAITING, ask(ABORT), complete(BODY)], "31, slot 0 is not in Process: it is Idle; it used ticket 1")
@@ -178,19 +181,20 @@ class Control(Case):
 
     def test_get_state(self):
         found = self.reply(packet(command(), to=0), packet(command()), ask(PAUSE), packet(command(), tag=4), ask(GET_STATE))
-        self.assertIn("the reply to Get State for slot 0 of record 5: TAG 5ah, CPSR 900ah: state Process, its pause flag (bit 15) is set, set: "
-                      "bit 3 (a command came while the slot was not Idle), bit 12 (TO was 0)", found)
+        self.assertIn("the reply to Get State for slot 0 of record 5: TAG 5ah, CPSR 900ah: state Process, its pause flag (bit 15) is "
+                      "set, set: bit 3 (a command came while the slot was not Idle), bit 12 (TO was 0)", found)
         self.assertIn("CPSR 0000h: state Idle, not paused, no other bit is set", self.reply(ask(GET_STATE)))
         self.says([packet(command(), to=0), ask(GET_STATE, cpsp=1)], "CPSP bit 0 clears bit 12")
 
     def test_pause_resume_abort(self):
         self.assertIn("CPSR 0: no pause flag is set", self.reply(ask(PAUSE)))
-        self.assertIn("Pause for both slots of record 2: TAG 5ah, CPSR 1: the pause flag of slot 0 is set", self.reply(START, ask(PAUSE)))
+        self.assertIn("Pause for both slots of record 2: TAG 5ah, CPSR 1: the pause flag of slot 0 is set",
+                      self.reply(START, ask(PAUSE)))
         self.assertIn("CPSR 2: it was taken", self.reply(*WAITING, ask(ABORT)))
         self.assertIn("CPSR 1: it was in Receive, or in Process and not taken", self.reply(START, ask(ABORT)))
         self.assertIn("CPSR 0: there was nothing to stop", self.reply(ask(ABORT)))
-        self.says([START, ask(PAUSE), ask(RESUME)], "clears the pause flag of slot 0", "the reply to Pause for both slots of record 2, which waited, "
-                  "is replaced")
+        self.says([START, ask(PAUSE), ask(RESUME)], "clears the pause flag of slot 0",
+                  "the reply to Pause for both slots of record 2, which waited, is replaced")
         self.says([*WAITING, ask(ABORT)], "aborts what slot 0 had: slot 0 Process taken")
 
     def test_errors(self):
@@ -223,13 +227,17 @@ class Effects(Case):
 
     def test_ciap(self):
         self.says([packet(command(ciap=1))], "sets the pause flag of slot 0, because CIAP is 1")
+        self.says([START, ask(PAUSE), packet(command(ciap=1))], "its pause flag goes with it", "sets the pause flag of slot 0, because")
 
     def test_timeout_and_reset(self):
-        self.says([START, timeout()], "0, timed out", "sets flag bit 5 (timeout while gathering)", "slot 0 goes from Receive to Idle")
-        self.says([ask(PAUSE), RESET], "sets flag bit 14 (reset seen)", "the reply to Pause for both slots of record 1, which waited, is gone")
+        self.says([START, timeout()], "0, timed out", "sets flag bit 5 (timeout while gathering)",
+                  "slot 0 goes from Receive to Idle; 64 gathered bytes of it are given up")
+        self.says([ask(PAUSE), RESET], "sets flag bit 14 (reset seen)",
+                  "the reply to Pause for both slots of record 1, which waited, is gone")
 
     def test_packets_of_a_response(self):
-        self.says([*WAITING, complete(bytes(57)), POLL, POLL], "packet 2 of 2 of the response of slot 0", "slot 0 goes from Transmit to Idle")
+        self.says([*WAITING, complete(bytes(57)), POLL, POLL], "packet 2 of 2 of the response of slot 0",
+                  "slot 0 goes from Transmit to Idle")
 
 
 class Reading(Case):
@@ -240,7 +248,8 @@ class Reading(Case):
 
     def test_causes(self):
         for fault, cause in ((record(7, b"\0"), "unknown tag 7"), (record(4, bytes(2)), "length 2 for a take, which has 1"),
-                             (record(5), "length 0 for a complete, which has 1 to 4,300"), (record(2, b"\0"), "length 1 for a poll, which has 0"),
+                             (record(5), "length 0 for a complete, which has 1 to 4,300"),
+                             (record(2, b"\0"), "length 1 for a poll, which has 0"),
                              (record(1, bytes(4301)), "length 4,301 for a packet, which has at most 4,300"),
                              (packet(command())[:8], "cut: 5 of 24 bytes of a packet are there"),
                              (POLL[:1], "cut: 1 of the 3 bytes of tag and length is there")):
@@ -253,12 +262,13 @@ class Reading(Case):
     def test_same_records_as_the_second_program(self):
         logs = [log.log for log in stored_logs()] + [generate(seed, 300)[0] for seed in range(8)]
         for log in logs:
-            self.assertEqual([(found.tag, found.body) for found in reading.records(io.BytesIO(log))], list(records(io.BytesIO(log))))
+            found = [(each.tag, each.body) for each in reading.records(io.BytesIO(log))]
+            self.assertEqual(found, list(records(io.BytesIO(log))))
 
 
 class Filters(Case):
-    LOG = [packet(command()), packet(command(slot=1), source=10, tag=3), packet(command(), to=0), take(), take(1), take(1), ask(PAUSE), POLL,
-           complete(BODY, 1), RESET]
+    LOG = [packet(command()), packet(command(slot=1), source=10, tag=3), packet(command(), to=0), take(), take(1), take(1), ask(PAUSE),
+           POLL, complete(BODY, 1), RESET]
 
     def shown(self, *arguments):
         return [found["record"] for found in objects(self.LOG, *arguments)[:-1]]
@@ -282,8 +292,8 @@ class Filters(Case):
 
 class Summaries(Case):
     def test_slots(self):
-        found = summary([*WAITING, complete(BODY), POLL, packet(command(8)), POLL, *WAITING, ask(ABORT), START, timeout(), START, START,
-                         *packets(command(200, slot=1), tag=3)[:1], RESET, packet(command(slot=1))])
+        found = summary([*WAITING, complete(BODY), POLL, packet(command(8)), POLL, *WAITING, ask(ABORT), START, timeout(), START,
+                         START, *packets(command(200, slot=1), tag=3)[:1], RESET, packet(command(slot=1))])
         self.assertEqual(found["slots"][0], {
             "slot": 0, "commands": 3, "completed": 1, "answered_at_once": 1, "ended": {"sent": 2, "aborted": 1, "reset": 0},
             "assemblies_ended": {"timed_out": 1, "started_anew": 1, "dropped": 0, "aborted": 0, "reset": 1}, "state": "Idle"})
@@ -294,8 +304,8 @@ class Summaries(Case):
         found = summary([*WAITING, complete(bytes(57)), POLL, ask(GET_STATE), POLL, POLL])
         self.assertEqual(found["longest_wait"], {"records": 4, "slot": 0, "ticket": 1, "from": 3, "to": 7})
         self.assertEqual(found["bytes"], {"in": 40, "refused": 0, "out": 68 + 5 + 16, "bodies": 57})
-        self.assertEqual(found["requesters"], [{"eid": 9, "tag": 1, "in": 1, "refused": 0, "out": 2}, {"eid": 9, "tag": 2, "in": 1, "refused": 0,
-                                                                                                       "out": 1}])
+        self.assertEqual(found["requesters"], [{"eid": 9, "tag": 1, "in": 1, "refused": 0, "out": 2},
+                                               {"eid": 9, "tag": 2, "in": 1, "refused": 0, "out": 1}])
 
     def test_answers(self):
         found = summary([packet(command(), to=0), POLL, packet(command(), to=0)])
@@ -428,8 +438,8 @@ class Differences(Case):
                                   explained([POLL], *form, source=lines_of(line)))
 
     def test_a_faulty_record_that_was_answered(self):
-        self.assertIn("'0', which is no line for a faulty record", explained(record(7), source=lines_of("0")))
-        self.assertIn("'0', which is no line for a faulty record".replace("'", "&#x27;"), explained(record(7), "--html", source=lines_of("0")))
+        for form in ((), ("--html",)):
+            self.assertIn(", which is no line for a faulty record", explained(record(7), *form, source=lines_of("0")))
 
     def test_a_packet_that_was_not_expected(self):
         self.assertIn("which is not what the second program sends", explained([POLL], source=lines_of("1 0109084184")))
@@ -564,7 +574,9 @@ class Programs(Case):
         return str(raised.exception)
 
     def test_it_fails(self):
-        self.assertIn("./program ended with status 3; it needs rt", self.trouble("raise SystemExit(3)"))
+        with mock.patch.dict(os.environ, PATH=""):
+            self.assertIn("./program ended with status 3; rt, the command of the Rattle kit, is not on the path",
+                          self.trouble("raise SystemExit(3)"))
         self.assertIn("./program ended with status 3", self.trouble("raise SystemExit(3)", b""))
         self.assertIn("./program ended with status 3", self.trouble("print(0); raise SystemExit(3)", POLL))
         self.assertIn("./program ended with status 3", self.trouble("raise SystemExit(3)", POLL * 200_000))

@@ -8,8 +8,9 @@
 import pathlib
 import sys
 
-# Python has put this folder on the path, where the package `explain` goes before this file; the second program is in tests/.
-sys.path.append(str(pathlib.Path(__file__).resolve().parent.parent / "tests"))
+# In this folder the package `explain` goes before this file; the second program is in tests/.
+HERE = pathlib.Path(__file__).resolve().parent
+sys.path[:0] = [str(HERE), str(HERE.parent / "tests")]
 
 from explain.cli import main  # noqa: E402
 

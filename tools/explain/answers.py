@@ -3,6 +3,7 @@ import contextlib
 import io
 import os
 import queue
+import shutil
 import subprocess
 import tempfile
 import threading
@@ -11,13 +12,16 @@ CHUNK = 1 << 16             # bytes that are read at once
 HELD = 64                   # chunks that are held in memory
 
 
+NO_KIT = "; rt, the command of the Rattle kit, is not on the path (--answers FILE takes lines that it printed elsewhere)"
+
+
 class Trouble(Exception):
     """Something that is told to the user in words."""
 
 
 class Answers:
-    """The records' bytes, the printed lines, and what has to be done at the end. `finish` is for a log that was read to its end and raises
-    Trouble where the program failed; `close` is for any end."""
+    """The records' bytes, the printed lines, and what has to be done at the end. `finish` is for a log that was read to its end
+    and raises Trouble where the program failed; `close` is for any end."""
 
     def __init__(self, log, lines, name):
         self.log, self.lines, self.name = log, lines, name
@@ -86,8 +90,7 @@ class Program(Answers):
     def finish(self):
         status = self.child.wait()
         if status:
-            raise Trouble(f"{self.name} ended with status {status}; it needs rt, the command of the Rattle kit, on the path "
-                          "(--answers FILE takes lines that it printed elsewhere)")
+            raise Trouble(f"{self.name} ended with status {status}{'' if shutil.which('rt') else NO_KIT}")
 
     def close(self):
         if self.child.poll() is None:
@@ -99,8 +102,9 @@ class Program(Answers):
 class Backlog(io.RawIOBase):
     """What the child was given and is not explained yet, as a stream.
 
-    The log program prints 64 KiB of lines at once, which can be those of thousands of records, so what it was given can't be limited. Some
-    chunks are held in memory. The others are in a file without a name, whose places are used again: neither grows with the log.
+    The log program prints 64 KiB of lines at once, which can be those of thousands of records, so what it was given can't be
+    limited. Some chunks are held in memory. The others are in a file without a name, whose places are used again: neither grows
+    with the log.
     """
 
     def __init__(self):

@@ -14,33 +14,35 @@ from .text import Json, Text
 
 ROOT = pathlib.Path(__file__).resolve().parent.parent.parent
 
-DESCRIPTION = "Explains a log: each record with its answer in words, what else it did, and what the slots then are; at the end a summary."
+DESCRIPTION = "Explains a log: each record with its answer in words, what else it did, what the slots then are; and a summary."
 
 EPILOG = """
-The answers are the log program's own: ./mi-log is run on the log, and proves and builds itself first where a source has changed. What
-the slots are is not in a log, so it is followed with the second program of tests/; a line with !! says so if that program would have
-answered otherwise.
+The answers are the log program's own: ./mi-log is run on the log, and proves and builds itself first where a source has
+changed. What the slots are is not in a log, so it is followed with the second program of tests/; a line with !! says so if
+that program would have answered otherwise.
 
---slot, --source, --from, --to and --refusals can be combined; a record is shown if all of them want it. The slots are followed through all
-records, and records keep their numbers in the whole log. The summary is of the whole log. A page of more than some 50,000 records is slow in
-a browser: choose some of them.
+--slot, --source, --from, --to and --refusals can be combined; a record is shown if all of them want it. The slots are
+followed through all records, and records keep their numbers in the whole log. The summary is of the whole log. A page of more
+than some 50,000 records is slow in a browser: choose some of them.
 
 --json prints an object for each record:
   record       its number in the log, from 1
   offset       where it begins in the log, in bytes
   kind         packet, poll, timeout, take, complete, reset or bad
-  fields       what it says. packet: bytes, version, destination, source, som, eom, sequence, to, tag, data (hex) and, for a first packet that was
-               looked at, message (ror, nmimt, csi, meb, ciap, opcode; for a control primitive primitive_tag and cpsp too); timeout, take,
-               complete: slot; take, complete: ticket; complete: body_bytes; bad: cause
+  fields       what it says. packet: bytes, version, destination, source, som, eom, sequence, to, tag, data (hex) and, for a
+               first packet that was looked at, message (ror, nmimt, csi, meb, ciap, opcode; for a control primitive
+               primitive_tag and cpsp too); timeout, take, complete: slot; take, complete: ticket; complete: body_bytes;
+               bad: cause
   answer       the number, null for bad; refused: whether it is a refusal
-  sent         the packet that a poll handed out (as in fields, with slot, control, and request: the primitive's record), or null
+  sent         the packet that a poll handed out (as in fields; with slot, control, and request: the primitive's record), or
+               null
   words        what the text says, as a list
   second       the second program's line where it differs, else null
-  slots        for each slot afterwards: slot, state, paused, ticket, eid, tag, get_state (the word that Get State would report); in
-               Receive gathered, with a response packets and sent
+  slots        for each slot afterwards: slot, state, paused, ticket, eid, tag, get_state (the word that Get State would
+               report); in Receive gathered, with a response packets and sent
   reply_waits  whether a control reply waits
-and at the end one with the field summary: records, log_bytes, kinds, answers, primitives, slots, bytes (in, refused, out, bodies),
-requesters, longest_wait, longest_pause, silent_polls, silent_polls_paused, replies_replaced, fault, differ, remarks.
+and at the end one with the field summary: records, log_bytes, kinds, answers, primitives, slots, bytes (in, refused, out,
+bodies), requesters, longest_wait, longest_pause, silent_polls, silent_polls_paused, replies_replaced, fault, differ, remarks.
 
 The status is 0 if the log was explained, 1 if something failed or the two programs differ, and 2 for a wrong command line.
 """
@@ -58,8 +60,8 @@ def parser():
                                     formatter_class=argparse.RawDescriptionHelpFormatter)
     found.add_argument("log", metavar="LOG", help="the log's file; - is standard input")
     found.add_argument("--slot", metavar="N", type=byte, help="only records that are about this slot or change it")
-    found.add_argument("--source", metavar="EID", type=byte, help="only records of this requester: its packets, what is sent to it, "
-                       "and takes, completes and timeouts of its commands")
+    found.add_argument("--source", metavar="EID", type=byte, help="only records of this requester: its packets, what is sent to "
+                       "it, and takes, completes and timeouts of its commands")
     found.add_argument("--from", dest="first", metavar="N", type=int, help="only records from this number on")
     found.add_argument("--to", dest="last", metavar="N", type=int, help="only records up to this number")
     found.add_argument("--refusals", action="store_true", help="only records that were refused, and a faulty one")
@@ -67,7 +69,8 @@ def parser():
     form = found.add_mutually_exclusive_group()
     form.add_argument("--json", dest="form", action="store_const", const=Json, help="one JSON object for each line")
     form.add_argument("--html", dest="form", action="store_const", const=Page, help="one page for a browser")
-    found.add_argument("--answers", metavar="FILE", type=pathlib.Path, help="lines that ./mi-log printed for this log, in place of running it")
+    found.add_argument("--answers", metavar="FILE", type=pathlib.Path,
+                       help="lines that ./mi-log printed for this log, in place of running it")
     return found
 
 

@@ -1,13 +1,13 @@
 """What happened at a record: the answer that was printed, and the slots before and after.
 
-A log has no states in it. They are followed with the second program (tests/second/), which is given every record; where it would have
-answered otherwise, the event says so and no ground is told from its slots.
+A log has no states in it. They are followed with the second program (tests/second/), which is given every record; where it would
+have answered otherwise, the event says so and no ground is told from its slots.
 """
 from collections import namedtuple
 
 from second.endpoint import Receive, Transmit
 from second.log import COMPLETE, PACKET, POLL, RESET, TAKE, TIMEOUT, Log
-from second.wire import CONTROL, GET_STATE, PAUSE, RESUME, control_request, message_header, packet_fields
+from second.wire import CONTROL, PAUSE, RESUME, control_request, message_header, packet_fields
 
 from .names import DONE, REFUSALS
 
@@ -22,11 +22,17 @@ HEADER = 4                  # bytes of a packet's header, and of a message's
 
 
 class Event:
-    """A record with its answer. `named` is the slot that it names and `slots` are all that it is about; `who` is the requester, (EID, tag),
-    or None. `ended` is the slot whose assembly a first packet ended. `primitive` is the control primitive that came or whose reply goes;
-    `replaced` is the one whose reply was replaced before it went. `ticket` is the one that a take gave or a complete used, `taken_at`
-    the record of its take. `message` is a whole message whose check is wrong, `at_once` the body that answered a command on entering
-    Process."""
+    """A record with its answer.
+
+    named              the slot that it names, or None; slots: all that it is about
+    who                the requester, (EID, tag), or None
+    ended              the slot whose assembly a first packet ended
+    primitive          the control primitive that came, or whose reply goes
+    replaced           the one whose reply was replaced, or gone with a reset, before it went
+    ticket, taken_at   what a take gave or a complete used, and the record of its take
+    message            a whole message whose check is wrong
+    at_once            the body that answered a command on entering Process
+    """
 
     def __init__(self, record, line, before):
         self.record, self.line, self.before, self.after = record, line, before, before
@@ -132,8 +138,9 @@ class Follower:
     def control(self, event):
         request = control_request(event.payload)
         event.replaced = self.waiting
-        event.primitive = self.waiting = Primitive(event.number, request.opcode, event.head.csi, event.who, request.tag, request.cpsp,
-                                                   event.after.reply[1][HEADER:-HEADER])
+        body = event.after.reply[1][HEADER:-HEADER]
+        event.primitive = self.waiting = Primitive(event.number, request.opcode, event.head.csi, event.who, request.tag,
+                                                   request.cpsp, body)
         if request.opcode in (PAUSE, RESUME):                   # "CSI is ignored by both"
             event.slots = frozenset((0, 1))
 
@@ -203,7 +210,3 @@ def packets_of(job):
     """Packets that a response has, and how many went."""
     length, sent = (job.length, job.sent) if isinstance(job, Transmit) else (job.response, 0)
     return -(-length // 64), sent
-
-
-def is_get_state(primitive):
-    return primitive.opcode == GET_STATE

@@ -1,7 +1,7 @@
 """Events as a page for a browser: a row for each record, with a lane for the controller, each slot and the drive.
 
-The page needs no other file, and is written as it goes. The summary, which is known last, is written last and shown first. Rows come in
-sections that a browser draws only while they are seen, so that many thousands can be scrolled.
+The page needs no other file, and is written as it goes. The summary, which is known last, is written last and shown first. Rows
+come in sections that a browser draws only while they are seen, so that many thousands can be scrolled.
 """
 import html
 import pathlib
@@ -9,7 +9,7 @@ import pathlib
 from second.log import COMPLETE, PACKET, POLL, RESET, TAKE, TIMEOUT
 from second.wire import CONTROL, PAUSE, RESUME
 
-from .following import is_paused
+from .following import is_paused, moved
 from .names import DONE, KINDS, REFUSALS, STATES, count, number
 from .wording import answer_words, effect_words, message_words, record_words, reply_words, slots_words
 
@@ -24,6 +24,7 @@ LETTER_EACH = 10            # rows after which a bar has its letter again
 
 # Places of the lanes, as in page.css
 CONTROLLER, REPLY, SLOTS, DRIVE, MIDDLE = 34, 106, (178, 274), 362, 11
+LANES = {"controller": CONTROLLER, "reply": REPLY, "slot 0": SLOTS[0], "slot 1": SLOTS[1], "drive": DRIVE}
 EDGE = 12                   # from the middle of a slot's lane to what is drawn beside its bar
 
 
@@ -54,11 +55,19 @@ def clock(at):
     return f'<circle class=paper cx="{at}" cy="{MIDDLE}" r="6.5"/><path d="M{at} {MIDDLE - 4}v4h3.5"/>'
 
 
+def silent(at):
+    return f'<circle class=paper cx="{at}" cy="{MIDDLE}" r="3.5"/>'
+
+
+def pausing(at):
+    return f'<circle class=paper cx="{at}" cy="{MIDDLE}" r="6.5"/><path d="M{at - 2} {MIDDLE - 3}v6m4 -6v6"/>'
+
+
 def marks():
     """Every mark: its name, and what it draws."""
     found = {
-        "silent": f'<circle class=paper cx="{CONTROLLER}" cy="{MIDDLE}" r="3.5"/>',
-        "waits": f'<circle class=paper cx="{CONTROLLER}" cy="{MIDDLE}" r="6.5"/><path d="M{CONTROLLER - 2} 8v6m4 -6v6"/>',
+        "silent": silent(CONTROLLER),
+        "waits": pausing(CONTROLLER),
         "reset": f'<path d="M{CONTROLLER - 10} 9H{DRIVE + 10}M{CONTROLLER - 10} 13H{DRIVE + 10}"/>',
         "bad": cross(CONTROLLER),
         "refused": dot(CONTROLLER) + line(CONTROLLER, REPLY - 27, True) + cross(REPLY - 20),
@@ -121,7 +130,8 @@ class Page:
     def begin(self, title):
         style = (HERE / "page.css").read_text(encoding="utf-8")
         symbols = "".join(f'<g id="{name}">{drawn}</g>' for name, drawn in marks().items())
-        self.write(PAGE_TOP.format(title=html.escape(title), style=style, symbols=symbols, legend=legend()))
+        lanes = "".join(f'<b style="left:{place}px">{name}</b>' for name, place in LANES.items())
+        self.write(PAGE_TOP.format(title=html.escape(title), style=style, symbols=symbols, legend=legend(), lanes=lanes))
 
     def event(self, event):
         if self.rows % ROWS == 0:
@@ -148,13 +158,12 @@ PAGE_TOP = """<!doctype html>
 <svg width="0" height="0" style="position:absolute" aria-hidden="true"><defs>{symbols}</defs></svg>
 <header>
 <h1>{title}</h1>
-<p>Each row is a record of the log; time goes downwards. The answers are those of the proved log program. What the slots are is followed with
-the second program. Put the pointer on a row, or go to it by keyboard, for all of its words.</p>
+<p>Each row is a record of the log; time goes downwards. The answers are those of the proved log program. What the slots are is
+followed with the second program. Put the pointer on a row, or go to it by keyboard, for all of its words.</p>
 </header>
 {legend}
 <main>
-<div class="top"><span class="n">record</span><span class="at">byte</span><span class="lanes"><b style="left:34px">controller</b><b
-style="left:106px">reply</b><b style="left:178px">slot 0</b><b style="left:274px">slot 1</b><b style="left:362px">drive</b>&nbsp;</span><span
+<div class="top"><span class="n">record</span><span class="at">byte</span><span class="lanes">{lanes}&nbsp;</span><span
 class="w">&nbsp;answer, and what happened</span></div>
 """
 
@@ -166,8 +175,9 @@ def row(event, lettered):
     kinds += [f"a{slot}" for slot in sorted(event.slots) if slot < 2]
     look = " ".join(["tick"] * is_packet + ["refuse"] * (event.refused or event.tag is None) + ["quiet"] * (name == "silent"))
     answer = "bad" if event.tag is None else "?" if event.answer is None else event.answer
-    return (f'<div class="{" ".join(kinds)}" id="r{event.number}"><span class="n"><a href="#r{event.number}">{event.number}</a></span>'
-            f'<span class="at">{event.record.offset}</span><span class="lanes" title="{html.escape(slots_words(event.after))}">'
+    return (f'<div class="{" ".join(kinds)}" id="r{event.number}">'
+            f'<span class="n"><a href="#r{event.number}">{event.number}</a></span><span class="at">{event.record.offset}</span>'
+            f'<span class="lanes" title="{html.escape(slots_words(event.after))}">'
             f'<svg class="{look}"><use href="#{name}"/></svg>{bars(event, lettered)}</span>'
             f'<div class="w"><p><b>{answer}</b>{html.escape(short_words(event))}</p><ul>{all_words(event)}</ul></div></div>\n')
 
@@ -179,17 +189,22 @@ def bars(event, lettered):
     if bool(after.reply) != bool(before.reply):
         drawn.append(f'<i class="reply {"down" if after.reply else "up"}"></i>')
     for slot in (0, 1):
-        same = before.states[slot] == after.states[slot] and event.ended != slot and is_paused(before, slot) == is_paused(after, slot)
-        if same:
-            drawn.append(bar(after, slot, "", lettered))
-        else:
+        if changed(event, slot):
             drawn += [bar(before, slot, " up", False), bar(after, slot, " down", True)]
+        else:
+            drawn.append(bar(after, slot, "", lettered))
     return "".join(drawn)
+
+
+def changed(event, slot):
+    """Whether the slot's bar looks otherwise after the record, or what it stands for began anew."""
+    return slot in moved(event) or event.ended == slot
 
 
 def bar(view, slot, half, lettered):
     name, letter = BARS[view.states[slot]]
-    return f'<i class="s{slot} {name}{" paused" if is_paused(view, slot) else ""}{half}">{letter if lettered else ""}</i>'
+    shown = f"<b>{letter}</b>" if lettered and letter else ""
+    return f'<i class="s{slot} {name}{" paused" if is_paused(view, slot) else ""}{half}">{shown}</i>'
 
 
 def short_words(event):
@@ -219,28 +234,32 @@ def packet_label(event):
 
 
 def all_words(event):
-    differs = [f"the second program answers {event.expected}"] if event.differs else []
-    return "".join(f"<li>{html.escape(words)}</li>" for words in (*record_words(event), answer_words(event), *effect_words(event), *differs))
+    parts = [*record_words(event), answer_words(event), *effect_words(event)]
+    if event.differs:
+        parts.append(f"the second program answers {event.expected}")
+    return "".join(f"<li>{html.escape(words)}</li>" for words in parts)
 
 
-# The legend
+# The legend, and what a reader can choose: the class that page.css knows, and its words
+
+CHOICES = {"no-quiet": "without polls that found nothing", "only-refused": "only refusals", "only-0": "only slot 0",
+           "only-1": "only slot 1"}
+
 
 def legend():
-    states = "".join(f'<span><i class="{name}">{letter}</i>{STATES[state]}{STATE_NOTES.get(state, "")}</span>'
+    states = "".join(f'<span><i class="{name}"><b>{letter}</b></i>{STATES[state]}{STATE_NOTES.get(state, "")}</span>'
                      for state, (name, letter) in BARS.items())
     drawn = "".join(f'<span><svg class="{look}" viewBox="0 0 56 22">{shown}</svg>{words}</span>' for look, shown, words in (
         ("", dot(4) + line(4, 42) + head(50, 1), "packet, take or completion"),
         ("", dot(4) + line(4, 42) + diamond(46), "control primitive; its reply begins in the reply lane"),
         ("refuse", dot(4) + line(4, 38, True) + cross(46), "refused"),
         ("", clock(28), "timeout"),
-        ("quiet", '<circle class=paper cx="28" cy="11" r="3.5"/>', "poll that found nothing"),
-        ("", '<circle class=paper cx="28" cy="11" r="6.5"/><path d="M26 8v6m4 -6v6"/>', "poll that found nothing because of a pause flag"),
+        ("quiet", silent(28), "poll that found nothing"),
+        ("", pausing(28), "poll that found nothing because of a pause flag"),
         ("", '<path d="M2 9H54M2 13H54"/>', "reset")))
+    boxes = "".join(f'<label><input type="checkbox" value="{value}"> {words}</label>' for value, words in CHOICES.items())
     return (f'<div id="legend">{states}<span><i class="taken paused"></i>pause flag set (hatched)</span>{drawn}\n'
-            '<div id="wanted" hidden><label><input type="checkbox" value="no-quiet"> without polls that found nothing</label>'
-            '<label><input type="checkbox" value="only-refused"> only refusals</label>'
-            '<label><input type="checkbox" value="only-0"> only slot 0</label><label><input type="checkbox" value="only-1"> only slot 1</label>'
-            '<label>go to record <input type="number" min="1"></label></div></div>')
+            f'<div id="wanted" hidden>{boxes}<label>go to record <input type="number" min="1"></label></div></div>')
 
 
 # The summary
@@ -262,7 +281,7 @@ def card(title, rows):
 def look_card(summary):
     remarks = list(summary.remarks())
     calm = "" if remarks else ' class="calm"'
-    items = "".join(f"<li>{html.escape(remark)}</li>" for remark in remarks) or "<li>Nothing: nothing was refused, every command was answered.</li>"
+    items = "".join(f"<li>{html.escape(remark)}</li>" for remark in remarks or [summary.CALM])
     return f'<div class="card"{calm} id="look"><h2>To look at</h2><ul>{items}</ul></div>\n'
 
 
@@ -278,30 +297,50 @@ def pair(name, value):
 
 def log_rows(summary):
     yield pair("records", f"{number(summary.records)}: {summary.kind_words()}")
-    yield pair("bytes", f"{number(summary.log_bytes)} of log; packets {number(summary.bytes['in'])} in ({number(summary.bytes['refused'])} refused), "
-               f"{number(summary.bytes['out'])} out; {number(summary.bytes['bodies'])} in bodies from the drive")
+    sums = {name: number(value) for name, value in summary.data()["bytes"].items()}
+    yield pair("bytes", f"{number(summary.log_bytes)} of log; packets {sums['in']} in ({sums['refused']} refused), {sums['out']} out; "
+               f"{sums['bodies']} in bodies from the drive")
     if summary.longest_wait:
         wait, slot, ticket, start, end = summary.longest_wait
-        yield pair("longest wait", f"{count(wait, 'record')} from a completion to its last packet: slot {slot}, ticket {number(ticket)}, "
-                   f'<a href="#r{start}">{start}</a> to <a href="#r{end}">{end}</a>')
+        yield pair("longest wait", f"{count(wait, 'record')} from a completion to its last packet: slot {slot}, "
+                   f'ticket {number(ticket)}, <a href="#r{start}">{start}</a> to <a href="#r{end}">{end}</a>')
     if summary.longest_pause:
         length, start, end = summary.longest_pause
         yield pair("longest pause", f'{count(length, "record")}, <a href="#r{start}">{start}</a> to <a href="#r{end}">{end}</a>')
 
 
+# Words, and where the summary's data of a slot has the number
+SLOT_ROWS = {
+    "commands that entered Process": "commands",
+    "completed by the drive": "completed",
+    "answered at once with an error": "answered_at_once",
+    "last packet went": "ended sent",
+    "aborted": "ended aborted",
+    "ended by a reset": "ended reset",
+    "assemblies timed out": "assemblies_ended timed_out",
+    "assemblies started anew": "assemblies_ended started_anew",
+    "assemblies dropped by a refusal": "assemblies_ended dropped",
+    "assemblies aborted": "assemblies_ended aborted",
+    "assemblies ended by a reset": "assemblies_ended reset",
+}
+
+
 def slot_rows(summary):
-    """A table with a column for each slot."""
+    """A table with a column for each slot; rows with two zeros are left out."""
     found = [summary.slot_data(index) for index in (0, 1)]
-    yield "<tr><th></th><th class=count>slot 0</th><th class=count>slot 1</th></tr>"
-    rows = [("commands that entered Process", lambda slot: slot["commands"]), ("completed by the drive", lambda slot: slot["completed"]),
-            ("answered at once with an error", lambda slot: slot["answered_at_once"]),
-            ("last packet went", lambda slot: slot["ended"]["sent"]), ("aborted", lambda slot: slot["ended"]["aborted"]),
-            ("ended by a reset", lambda slot: slot["ended"]["reset"]),
-            ("assemblies timed out", lambda slot: slot["assemblies_ended"]["timed_out"]),
-            ("assemblies started anew", lambda slot: slot["assemblies_ended"]["started_anew"]),
-            ("assemblies dropped by a refusal", lambda slot: slot["assemblies_ended"]["dropped"]),
-            ("assemblies aborted or reset", lambda slot: slot["assemblies_ended"]["aborted"] + slot["assemblies_ended"]["reset"])]
-    for name, value in rows:
-        if any(map(value, found)):
-            yield f"<tr><td>{name}</td><td class=count>{number(value(found[0]))}</td><td class=count>{number(value(found[1]))}</td></tr>"
-    yield f"<tr><td>at the end</td><td class=count>{STATES[found[0]['state']]}</td><td class=count>{STATES[found[1]['state']]}</td></tr>"
+    yield slot_row("", "slot 0", "slot 1")
+    for name, path in SLOT_ROWS.items():
+        values = [at_path(slot, path) for slot in found]
+        if any(values):
+            yield slot_row(name, *map(number, values))
+    yield slot_row("at the end", *(STATES[slot["state"]] for slot in found))
+
+
+def slot_row(name, *values):
+    return f"<tr><td>{name}</td>" + "".join(f"<td class=count>{value}</td>" for value in values) + "</tr>"
+
+
+def at_path(found, path):
+    for name in path.split():
+        found = found[name]
+    return found

@@ -11,6 +11,7 @@ from .names import DONE, KINDS, PRIMITIVES, REFUSALS, STATES, count, flags_set, 
 COMMAND_ENDS = {"sent": "answered, the last packet went", "aborted": "aborted", "reset": "ended by a reset"}
 ASSEMBLY_ENDS = {"timed_out": "timed out", "started_anew": "ended by a first packet under the same source and tag",
                  "dropped": "dropped by a refusal", "aborted": "aborted", "reset": "ended by a reset"}
+ANSWERED = ("Process answered", "Transmit")         # states of a slot whose response is there
 
 
 class Slot:
@@ -25,6 +26,8 @@ class Slot:
 
 class Summary:
     """Takes in events one by one. `size` is the log's, None where it isn't known."""
+
+    CALM = "Nothing to look at: nothing was refused, every command was answered"
 
     def __init__(self, size=None):
         self.size = size
@@ -78,8 +81,7 @@ class Summary:
             self.requester(event.who)["out"] += 1
         else:
             self.silent += 1
-            waits = any(state in ("Transmit", "Process answered") for state in event.before.states)
-            self.silent_paused += bool(event.before.paused and waits)
+            self.silent_paused += bool(event.before.paused and any(state in ANSWERED for state in event.before.states))
 
     def requester(self, who):
         return self.requesters.setdefault(who, Counter({"in": 0, "refused": 0, "out": 0}))
@@ -98,7 +100,7 @@ class Summary:
                 self.ended(event, index, slot)
             if event.before.states[index] != event.after.states[index] or event.ended == index:
                 slot.since = event.number
-                if event.after.states[index] in ("Process answered", "Transmit") and event.before.states[index] != "Process answered":
+                if event.before.states[index] not in ANSWERED and event.after.states[index] in ANSWERED:
                     slot.answered_at = event.number
         self.follow_pause(event)
 
@@ -164,15 +166,22 @@ class Summary:
             yield f"the log ends with a faulty record at byte {number(self.fault.record.offset)}: {self.fault.record.fault}{unread}"
         for answer, (times, first) in self.refusals.items():
             yield f"refused {count(times, 'time')} with {answer}, first at record {first}: {REFUSALS[answer]}"
-        for index, slot in enumerate(self.slots):
-            ends = {**{f"assemblies {ASSEMBLY_ENDS[end]}": times for end, times in slot.ends["assembly"].items() if end != "dropped"},
-                    **{f"commands {COMMAND_ENDS[end]}": times for end, times in slot.ends["command"].items() if end != "sent"}}
-            yield from (f"slot {index}: {number(times)} {words}" for words, times in ends.items())
+        yield from self.broken_off()
         yield from self.leftovers()
         if self.replaced:
             yield f"replaced by a newer one before a poll sent it: {count(self.replaced, 'control reply', 'control replies')}"
         if self.silent_paused:
             yield f"{count(self.silent_paused, 'poll')} found nothing because a pause flag held a response back"
+
+    def broken_off(self):
+        """Commands and assemblies that came to no answer; those that a refusal dropped are among the refusals."""
+        for index, slot in enumerate(self.slots):
+            for end, times in slot.ends["command"].items():
+                if end != "sent":
+                    yield f"slot {index}: {count(times, 'command')} {COMMAND_ENDS[end]}"
+            for end, times in slot.ends["assembly"].items():
+                if end != "dropped":
+                    yield f"slot {index}: {count(times, 'assembly', 'assemblies')} {ASSEMBLY_ENDS[end]}"
 
     def leftovers(self):
         """What is still there when the log ends."""
@@ -226,7 +235,7 @@ class Summary:
             yield from self.slot_lines(index)
         yield from self.wait_words()
         remarks = list(self.remarks())
-        yield "To look at" if remarks else "Nothing to look at: nothing was refused, every command was answered"
+        yield "To look at" if remarks else self.CALM
         yield from (f"  {remark}" for remark in remarks)
 
     def kind_words(self):
@@ -242,16 +251,17 @@ class Summary:
     def byte_words(self):
         sums = self.bytes
         yield "Bytes"
-        yield (f"  in {number(sums['in'])} in {count(self.kinds[PACKET], 'packet')}, of which {number(sums['refused'])} were refused; "
-               f"out {number(sums['out'])} in {count(sum(seen['out'] for seen in self.requesters.values()), 'packet')}; "
-               f"{number(sums['bodies'])} in bodies from the drive")
+        out = sum(seen["out"] for seen in self.requesters.values())
+        yield (f"  in {number(sums['in'])} in {count(self.kinds[PACKET], 'packet')} ({number(sums['refused'])} refused); "
+               f"out {number(sums['out'])} in {count(out, 'packet')}; {number(sums['bodies'])} in bodies from the drive")
         if self.primitives:
             yield "  control primitives: " + listed(f"{number(times)} {PRIMITIVES.get(opcode, f'of opcode {opcode:02x}h')}"
                                                     for opcode, times in sorted(self.primitives.items()))
         if self.requesters:
             yield "Requesters"
         for (eid, tag), seen in sorted(self.requesters.items()):
-            yield f"  EID {eid:3} tag {tag}: {count(seen['in'], 'packet')} came, {number(seen['refused'])} refused; {number(seen['out'])} went back"
+            yield (f"  EID {eid:3} tag {tag}: {count(seen['in'], 'packet')} came, {number(seen['refused'])} refused; "
+                   f"{number(seen['out'])} went back")
 
     def slot_lines(self, index):
         slot = self.slots[index]

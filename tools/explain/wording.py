@@ -4,8 +4,8 @@ from second.log import COMPLETE, PACKET, POLL, RESET, TAKE, TIMEOUT
 from second.wire import ABORT, CONTROL, GET_STATE, PAUSE, PAYLOAD, RESUME, crc32c
 
 from .following import HEADER, REQUEST, is_paused, left_for_idle, packets_of
-from .names import (ABORTED, DONE, FLAGS, INVALID_PARAMETER, KINDS, MESSAGES, OPCODES, PRIMITIVES, REFUSAL_FLAG, REFUSALS, STATE_NAMES,
-                    STATES, STATUS, count, field_at, flags_set, listed, number)
+from .names import (ABORTED, DONE, FLAGS, INVALID_PARAMETER, KINDS, MESSAGES, OPCODES, PRIMITIVES, REFUSAL_FLAG, REFUSALS,
+                    STATE_NAMES, STATES, STATUS, count, field_at, flags_set, listed, number)
 
 
 # The record
@@ -50,7 +50,8 @@ def header_words(packet, fields):
 def message_words(payload, eom):
     """What the first packet of a message carries, as far as it is there."""
     if payload[0] != REQUEST:
-        return f"{count(len(payload), 'payload byte')}, the first is {payload[0]:02x}h: no NVMe-MI message with an integrity check (84h)"
+        return (f"{count(len(payload), 'payload byte')}, the first is {payload[0]:02x}h: no NVMe-MI message with an integrity check "
+                "(84h)")
     there = len(payload)
     if there == 1:
         return "an NVMe-MI message (84h) of which this 1 byte is there"
@@ -65,7 +66,7 @@ def message_words(payload, eom):
 
 
 def opcode_words(nmimt, payload, eom):
-    """The kind of a message (NMIMT) and its opcode. A message that ends within 8 bytes has none: its last four bytes are the check."""
+    """The kind of a message (NMIMT) and its opcode. A message that ends within 8 bytes has none: its last four are the check."""
     kind = MESSAGES.get(nmimt, f"command of unknown kind (NMIMT {nmimt})")
     if len(payload) <= (8 if eom else HEADER):
         return kind
@@ -133,8 +134,8 @@ def completed_words(event, plain):
 
 
 def ticket_words(event):
-    used = f"ticket {number(event.ticket)}" + (f", taken at record {event.taken_at}" if event.taken_at else ", since none was taken there")
-    return f"it used {used}; the slot's present one is {number(event.after.counts[event.named])}"
+    where = f"taken at record {event.taken_at}" if event.taken_at else "since none was taken there"
+    return f"it used ticket {number(event.ticket)}, {where}; the slot's present one is {number(event.after.counts[event.named])}"
 
 
 def silence_words(event, plain):
@@ -160,15 +161,16 @@ def ground_shape(event):
 
 
 def ground_control(event):
-    parts = (("EOM is 0", not event.fields.eom), (f"it has {count(len(event.payload), 'payload byte')} and not 12", len(event.payload) != 12))
+    size = len(event.payload)
+    parts = (("EOM is 0", not event.fields.eom), (f"it has {count(size, 'payload byte')} and not 12", size != 12))
     return f"a control primitive has to be one packet of 12 payload bytes: {listed(words for words, applies in parts if applies)}"
 
 
 def ground_check(event):
     message = event.message
     carried, found = int.from_bytes(message[-4:], "little"), crc32c(message[:-4])
-    return (f"the integrity check is wrong: the message of {count(len(message), 'byte')} carries {carried:08x}h, and its bytes give "
-            f"{found:08x}h")
+    return (f"the integrity check is wrong: the message of {count(len(message), 'byte')} carries {carried:08x}h, and its bytes "
+            f"give {found:08x}h")
 
 
 def ground_busy(event):
@@ -317,8 +319,8 @@ def primitive_words(event):
     if primitive.opcode == ABORT and event.before.states[primitive.slot] != "Idle" and event.ended != primitive.slot:
         yield f"aborts what slot {primitive.slot} had: {slot_words(event.before, primitive.slot)}"
     if primitive.opcode == GET_STATE and primitive.cpsp & 1:
-        cleared = [f"bit {bit}" for bit in FLAGS if (event.before.words[primitive.slot] & ~event.after.words[primitive.slot]) >> bit & 1
-                   and bit != 15]
+        gone = event.before.words[primitive.slot] & ~event.after.words[primitive.slot]
+        cleared = [f"bit {bit}" for bit in FLAGS if gone >> bit & 1 and bit != 15]
         yield f"CPSP bit 0 clears {listed(cleared) if cleared else 'the flag bits, none of which was set'}"
 
 
@@ -343,11 +345,11 @@ def flag_words(event):
 
 def pause_words(event):
     """Pause flags that a command with CIAP, Pause, Resume or going to Idle changed."""
-    before, after = event.before, event.after
     for slot in (0, 1):
-        if is_paused(after, slot) and not is_paused(before, slot):
+        was, now = is_paused(event.before, slot) and event.ended != slot, is_paused(event.after, slot)
+        if now and not was:
             yield f"sets the pause flag of slot {slot}" + ("" if event.primitive else ", because CIAP is 1")
-        if is_paused(before, slot) and not is_paused(after, slot) and event.ended != slot:
+        if was and not now:
             yield f"clears the pause flag of slot {slot}"
 
 
