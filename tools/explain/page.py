@@ -10,7 +10,7 @@ from second.log import COMPLETE, PACKET, POLL, RESET, TAKE, TIMEOUT
 from second.wire import CONTROL, PAUSE, RESUME
 
 from .following import is_paused, moved
-from .names import DONE, KINDS, REFUSALS, STATES, count, number
+from .names import KINDS, REFUSALS, STATES, count, number
 from .wording import answer_words, effect_words, message_words, record_words, reply_words, slots_words
 
 HERE = pathlib.Path(__file__).parent

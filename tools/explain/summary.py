@@ -1,7 +1,7 @@
 """The summary of a log: what came, what was answered, and what became of each command. Its memory does not grow with the log."""
 from collections import Counter
 
-from second.log import COMPLETE, PACKET, POLL, RESET, TAKE, TIMEOUT
+from second.log import COMPLETE, PACKET, POLL, RESET, TIMEOUT
 from second.wire import ABORT
 
 from .following import left_for_idle
