@@ -22,8 +22,8 @@ changed. What the slots are is not in a log, so it is followed with the second p
 that program would have answered otherwise.
 
 --slot, --source, --from, --to and --refusals can be combined; a record is shown if all of them want it. The slots are
-followed through all records, and records keep their numbers in the whole log. The summary is of the whole log. A page of more
-than some 50,000 records is slow in a browser: choose some of them.
+followed through all records, and records keep their numbers in the whole log. The summary is of the whole log. A page has
+about 800 bytes for each record: choose some of them where a log is long.
 
 --json prints an object for each record:
   record       its number in the log, from 1
