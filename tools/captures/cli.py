@@ -1,0 +1,192 @@
+"""The command line of tools/capture.py."""
+import argparse
+import contextlib
+import os
+import shutil
+import sys
+import tempfile
+
+from captures import check, hexlines, pcap, run, write
+from captures.make import OWN_EID, Maker, Options, record_bytes
+from captures.told import SIDES, Failure, Teller
+
+TEXT_MARKS = {b"\x1f\x8b": "compressed with gzip: unpack it first", b"\xff\xfe": "UTF-16 text: save it as UTF-8",
+              b"\xfe\xff": "UTF-16 text: save it as UTF-8"}
+READERS = {"hex": hexlines.Reader, "pcap": pcap.Reader}
+
+
+# Files
+
+def why(error):
+    return error.strerror or str(error)
+
+
+@contextlib.contextmanager
+def opened(path):
+    """The file to read; `-` is standard input."""
+    if path == "-":
+        yield sys.stdin.buffer
+        return
+    try:
+        stream = open(path, "rb")
+    except OSError as error:
+        raise Failure(f"{path} can't be read: {why(error)}") from error
+    with stream:
+        yield stream
+
+
+@contextlib.contextmanager
+def created(path, source):
+    """The file to write; standard output if none is named."""
+    if path in (None, "-"):
+        if sys.stdout.isatty():
+            raise Failure("the output is not text: name a file with -o, or send it on")
+        yield sys.stdout.buffer
+        sys.stdout.buffer.flush()
+        return
+    if source != "-" and os.path.exists(path) and os.path.exists(source) and os.path.samefile(path, source):
+        raise Failure(f"{path} is the input: name another file with -o")
+    try:
+        stream = open(path, "wb")
+    except OSError as error:
+        raise Failure(f"{path} can't be written: {why(error)}") from error
+    with stream:
+        yield stream
+
+
+@contextlib.contextmanager
+def on_disk(path):
+    """The path of a file that can be read twice: a copy of what is no plain file."""
+    if path != "-" and os.path.isfile(path):
+        with opened(path):                                  # so that a file that can't be read is told before anything is written
+            yield path
+        return
+    with opened(path) as stream, tempfile.NamedTemporaryFile() as copy:
+        shutil.copyfileobj(stream, copy)
+        copy.flush()
+        yield copy.name
+
+
+def kind_of(stream):
+    """Whether a file is a capture ("pcap") or text ("hex"), by its first bytes."""
+    begin = stream.peek(4)[:4]
+    for magic, what in TEXT_MARKS.items():
+        if begin.startswith(magic):
+            raise Failure(f"it is {what}")
+    return "pcap" if begin in pcap.MAGICS else "hex"
+
+
+# The commands
+
+def told(teller, *parts):
+    """The summaries of a reader and a maker."""
+    for part in parts:
+        for words in part.summary():
+            teller.note(words)
+
+
+def from_capture(kind, given, runner, teller):
+    options = Options(given.eid, given.readdress, given.all, given.answer)
+    with opened(given.file) as stream:
+        if kind == "hex" and kind_of(stream) == "pcap":
+            raise Failure(f"{given.file} is a pcap or pcapng file: use from-pcap")
+        reader, maker = READERS[kind](stream, teller, given.seen_from), Maker(options, teller)
+        with created(given.output, given.file) as output:
+            for record in maker.records(reader.packets()):
+                output.write(record_bytes(record))
+    told(teller, reader, maker)
+    return 1 if teller.faults else 0
+
+
+def from_hex(given, runner, teller):
+    return from_capture("hex", given, runner, teller)
+
+
+def from_pcap(given, runner, teller):
+    return from_capture("pcap", given, runner, teller)
+
+
+def to_pcap(given, runner, teller):
+    link = {"cooked": pcap.COOKED_LINK, "mctp": pcap.MCTP_LINK}[given.link]
+    form = write.Pcap(link) if given.classic else write.Pcapng(link)
+    with on_disk(given.file) as path, created(given.output, given.file) as output:
+        write.write(path, runner, form, output, teller)
+    return 1 if teller.faults else 0
+
+
+def check_capture(given, runner, teller):
+    if given.eid != OWN_EID and not given.readdress:
+        raise Failure(f"the endpoint's EID is {OWN_EID}: with --eid {given.eid}, check needs --readdress")
+    options = Options(given.eid, given.readdress, given.all, answer=True, drain=True)
+    with on_disk(given.file) as path, tempfile.NamedTemporaryFile() as log:
+        with opened(path) as stream:
+            reader, maker = READERS[kind_of(stream)](stream, teller, given.seen_from), Maker(options, teller)
+            for record in maker.records(reader.packets()):
+                log.write(record_bytes(record))
+        log.flush()
+        told(teller, reader, maker)
+        with opened(path) as stream:                        # once more, beside the answers, so that neither is kept in memory
+            quiet = Teller(quiet=True)
+            again = READERS[kind_of(stream)](stream, quiet, given.seen_from)
+            counts = check.compare(Maker(options, quiet).records(again.packets()), log.name, runner, sys.stdout)
+    print(check.in_words(counts))
+    sys.stdout.flush()
+    return 1 if teller.faults or counts.total() > counts["same"] else 0
+
+
+# The arguments
+
+def eid(text):
+    number = int(text, 0)
+    if not 0 <= number <= 255:
+        raise ValueError
+    return number
+
+
+def arguments():
+    parser = argparse.ArgumentParser(prog="capture.py", description="Makes logs from captures of a board, and captures from logs.",
+                                     epilog="docs/CAPTURES.md has examples.")
+    commands = parser.add_subparsers(required=True, metavar="COMMAND")
+    chosen = argparse.ArgumentParser(add_help=False)
+    chosen.add_argument("--eid", type=eid, default=OWN_EID, metavar="N", help="the board's EID in the capture (8 if not given)")
+    chosen.add_argument("--readdress", action="store_true", help="write packets for the board's EID to EID 8, the log program's")
+    chosen.add_argument("--all", action="store_true", help="take packets to other EIDs too (the endpoint answers 13)")
+    chosen.add_argument("--seen-from", choices=SIDES, help="from which side in and out are meant in the capture's marks")
+    for name, command, words in (("from-hex", from_hex, "makes a log from lines of hex"),
+                                 ("from-pcap", from_pcap, "makes a log from a pcap or pcapng file")):
+        made = commands.add_parser(name, parents=[chosen], help=words, description=words.capitalize() + ".")
+        made.add_argument("file", metavar="FILE", help="the capture; - is standard input")
+        made.add_argument("-o", dest="output", metavar="LOG", help="the log; standard output if not given")
+        made.add_argument("--answer", action="store_true", help="take and complete each command with its captured response")
+        made.set_defaults(command=command)
+    words = "compares what a board sent with what the endpoint sends"
+    checked = commands.add_parser("check", parents=[chosen], help=words, description=words.capitalize() + ".")
+    checked.add_argument("file", metavar="CAPTURE", help="lines of hex, pcap or pcapng; - is standard input")
+    checked.set_defaults(command=check_capture)
+    words = "makes a capture from a log and its answers"
+    wrote = commands.add_parser("to-pcap", help=words, description=words.capitalize() + ".")
+    wrote.add_argument("file", metavar="LOG", help="the log; - is standard input")
+    wrote.add_argument("-o", dest="output", metavar="FILE", help="the capture; standard output if not given")
+    wrote.add_argument("--classic", action="store_true", help="classic pcap, without directions and comments, instead of pcapng")
+    wrote.add_argument("--link", choices=("cooked", "mctp"), default="cooked",
+                       help="cooked: link type 113, which Wireshark opens (the default); mctp: link type 291")
+    wrote.set_defaults(command=to_pcap)
+    return parser
+
+
+def main(given=None, runner=run.proved):
+    """Runs a command and gives the exit status: 0, or 1 if something was not read, differs or failed."""
+    given, teller = arguments().parse_args(given), Teller()
+    try:
+        return given.command(given, runner, teller)
+    except Failure as failure:
+        teller.note(str(failure))
+    except BrokenPipeError:
+        teller.note("the output was closed")
+        os.dup2(os.open(os.devnull, os.O_WRONLY), sys.stdout.fileno())      # so that nothing more is said when Python ends
+    except OSError as error:
+        teller.note(f"reading or writing failed: {why(error)}")
+    except KeyboardInterrupt:
+        teller.note("stopped")
+        return 130
+    return 1
