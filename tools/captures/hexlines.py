@@ -12,11 +12,11 @@ LONGEST_LINE = 65536
 LONGEST_PACKET = 4300               # what a log can hold
 
 TIME = re.compile(r"""[\[(]?\s*(?:
-      (?P<date>  \d{4}-\d\d-\d\d[T\ ]\d\d:\d\d:\d\d(?:[.,]\d+)?\ ?(?:Z|[+-]\d\d:?\d\d)? )
-    | (?P<clock> \d\d?:\d\d:\d\d[.,]\d+ )
+      (?P<date>  \d{4}-\d\d-\d\d[T\ ]\d\d:\d\d:\d\d(?:\.\d+)?(?:\ ?(?:Z|[+-]\d\d:?\d\d))? )
+    | (?P<clock> \d\d?:\d\d:\d\d\.\d+ )
     | (?P<bare>  (?:[01]\d|2[0-3]):[0-5]\d:[0-5]\d )
     | (?P<seconds> \d+\.\d+s? )
-    )\s*[\])]?[:,;]?(?=\s|$)""", re.VERBOSE)
+    )\s*[\])]?(?:[,;]|:?(?=\s|$))""", re.VERBOSE)
 TIME_FORMS = {"date": "a date and time", "clock": "HH:MM:SS with a fraction", "bare": "HH:MM:SS", "seconds": "seconds"}
 MARK = re.compile(r"[\[(]?(?P<mark>-{1,2}>|<-{1,2}|=>|<=|[<>]|(?:in|out|rx|tx|i|o)(?=[\s:\])]|$))[\])]?:?", re.IGNORECASE)
 OFFSET = re.compile(r"(?P<prefix>0x)?(?P<offset>[0-9a-f]{4,8})(?P<colon>:)?(?=\s|$)", re.IGNORECASE)
@@ -38,7 +38,7 @@ class Unreadable(Exception):
 def hex_bytes(text):
     """The bytes of hex digits with or without one kind of separator between them."""
     text = text.strip(" \t,")
-    kinds = {" " if found.strip(" \t,") == "" else found for found in re.findall(r"[:\-]|[\s,]+", text)}
+    kinds = {found if found in ":-" else " " for found in re.findall(r"[:\-]|[\s,]+", text)}
     if len(kinds) > 1:
         raise Unreadable(f"{' and '.join(SEPARATORS[kind] for kind in sorted(kinds))} stand between the bytes of one line")
     return b"".join(token_bytes(token) for token in re.split(r"[:\-]|[\s,]+", text))
@@ -84,31 +84,31 @@ def row_bytes(after):
     return hex_bytes(text)
 
 
-def row_offset(text, expected):
-    """The offset of a dump's row and what follows it, or None if the line is no row. `expected` is where an open dump goes on."""
+def row_offset(text, dump):
+    """The offset of a row and what follows it, or None if the line is no row. `dump` is the open one, or None."""
     found = OFFSET.match(text)
     if not found or found["prefix"] and not found["colon"]:
         return None
-    offset, after = int(found["offset"], 16), text[found.end():]
-    if found["colon"]:
+    digits, after = found["offset"], text[found.end():]
+    offset = int(digits, 16)
+    goes_on = dump is not None and dump.goes_on_at(offset)
+    if found["colon"] or goes_on and not after.strip():     # the last line of a dump is its length alone
         return offset, after
-    if not after.strip():                                   # the last line of a dump is its length alone
-        return (offset, after) if offset == expected else None
     if not re.match(r"\s+[0-9a-f]{2}(\s|$)", after, re.IGNORECASE):
-        if len(found["offset"]) == 7 and offset in (0, expected):
+        if len(digits) == 7 and after.strip() and (offset == 0 or goes_on):
             raise Unreadable("words of hexdump or od, whose bytes may be swapped: use hexdump -C or od -A x -t x1")
-        return None
-    if offset in (0, expected) or len(found["offset"]) % 2:
+        if dump is None or after.strip():
+            return None
+    elif offset == 0 or goes_on or len(digits) % 2:
         return offset, after
     if offset < LONGEST_PACKET:
-        raise Unreadable(f"'{found['offset']}' may be an offset or bytes: "
-                         f"as an offset {'0' if not expected else f'0 or {expected:x}'} was expected")
+        raise Unreadable(f"'{digits}' may be an offset or bytes: as an offset, {dump.next if dump else '0'} was expected")
     return None
 
 
-def row_of(text, expected):
+def row_of(text, dump):
     """The row of a dump, or None."""
-    found = row_offset(text, expected)
+    found = row_offset(text, dump)
     if found is None:
         return None
     offset, after = found
@@ -136,14 +136,14 @@ def prefix_of(text):
     return form, mark, text
 
 
-def part_of(line, expected=None):
-    """What a line is. Raises Unreadable."""
+def part_of(line, dump=None):
+    """What a line is, below the rows of the open dump. Raises Unreadable."""
     text = line.strip()
     if not text or text.startswith("#"):
         return Nothing()
     if text == "*":
         return Repeated()
-    row = row_of(text, expected)
+    row = row_of(text, dump)
     if row is not None:
         return row
     form, mark, rest = prefix_of(text.partition("#")[0].rstrip())
@@ -167,12 +167,21 @@ class Dump:
         self.place, self.direction = place, direction
         self.data, self.last, self.repeats = bytearray(), b"", False
 
+    @property
+    def next(self):
+        """The offset that the next row must have, in words."""
+        return f"{len(self.data):x}" + (f" and a multiple of {len(self.last):x} more" if self.repeats else "")
+
+    def goes_on_at(self, offset):
+        """Whether a row with this offset goes on from the last one; after `*`, with copies of the last one between."""
+        gap = offset - len(self.data)
+        return 0 < gap <= LONGEST_PACKET and gap % len(self.last) == 0 if self.repeats else gap == 0
+
     def add(self, row):
-        gap = row.offset - len(self.data)
-        if self.repeats and 0 < gap <= LONGEST_PACKET and self.last and gap % len(self.last) == 0:
-            self.data += self.last * (gap // len(self.last))
-        elif gap or self.repeats:
-            raise Unreadable(f"offset {row.offset:x} where {len(self.data):x} was expected (offsets are read as hexadecimal)")
+        if not self.goes_on_at(row.offset):
+            raise Unreadable(f"offset {row.offset:x} where {self.next} was expected (offsets are read as hexadecimal)")
+        if self.repeats:
+            self.data += self.last * ((row.offset - len(self.data)) // len(self.last))
         self.repeats = False
         self.last = row.data
         self.data += row.data
@@ -214,9 +223,8 @@ class Reader:
 
     def line(self, number, line):
         """The packets that are whole with this line."""
-        expected = len(self.dump.data) if self.dump else None
         try:
-            part = part_of(line, None if self.dump and self.dump.repeats else expected)
+            part = part_of(line, self.dump)
         except Unreadable:
             if self.dump and row_like(line):
                 self.leave(number)
@@ -226,6 +234,8 @@ class Reader:
             self.begin(number)
         if isinstance(part, (Row, Repeated)):
             self.row(number, part)
+            if isinstance(part, Row) and not part.data:
+                yield from self.closed()
             return
         yield from self.closed()
         self.no_dump_came()

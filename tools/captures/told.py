@@ -77,7 +77,7 @@ CALLS = {TIMEOUT: "timeout of slot {}", TAKE: "take of slot {}", COMPLETE: "comp
 def answer_in_words(tag, line):
     """A line of the log program in words; `tag` is the record's."""
     number = int(line.split()[0])
-    words = SUCCESSES.get((tag, number)) or REFUSALS.get(number)
+    words = SUCCESSES.get((tag, number)) or REFUSALS.get(number) or ("done" if number == 0 else None)
     return f"answer {number}: {words}" if words else f"answer {number}"
 
 
