@@ -278,7 +278,7 @@ class Dumps(Case):
             with self.subTest(name):
                 log, said = self.from_hex("".join(f"{line}\n" for data in wanted for line in form(data)), "--all")
                 self.assertEqual(log, b"".join(map(record, wanted)))
-                self.assertIn("5 packets from dumps of", said)
+                self.assertIn("5 packets of dumps with an offset column", said)
 
     def test_every_byte_in_text_columns(self):
         for first in range(0, 256, 12):
@@ -310,6 +310,18 @@ class Dumps(Case):
                 self.assertEqual(log, record(PACKET))
                 self.assertIn(reason, said)
                 self.assertIn("the packet from line 1 is left out", said)
+
+    def test_bad_first_row_leaves_the_packet_above(self):
+        log, said = self.from_hex("\n".join([*xxd(PACKET), "00000000: 01zz", "00000010: 0000", *xxd(LONG)]), status=1)
+        self.assertEqual(log, record(PACKET) + record(LONG))
+        self.assertIn("line 4: not read: a row of the packet from line 3, which is left out", said)
+        self.assertIn("2 not read", said)
+
+    def test_heading_of_another_dump_is_not_used(self):
+        for between in ("00000000: 01zz", "words", HEX, ""):
+            with self.subTest(between):
+                log, _ = self.from_hex("\n".join(["1.5 <", between, *xxd(PACKET)]), status=1)
+                self.assertTrue(log.endswith(record(PACKET)))
 
     def test_repeats_without_end(self):
         log, said = self.from_hex("\n".join([*list(hexdump(bytes((1, 8, 9, 0xC9)) + bytes(60)))[:1], "*", "00000018", HEX]), status=1)
@@ -733,7 +745,7 @@ class Writing(Case):
 
     def test_clock_is_told(self):
         capture, said = self.to_pcap(packet(command()))
-        self.assertIn(b"The clock is made up", capture)
+        self.assertIn(b"the clock is made up", capture)
         self.assertIn("the clock is made up", said)
 
     def test_link_types(self):

@@ -4,6 +4,7 @@ A line is [time] [direction] bytes; time and direction may stand in either order
 a packet. Where a line can be read in two ways it is refused, with the reason; no way is picked silently.
 """
 import collections
+import itertools
 import re
 
 from captures.told import FROM_BOARD, TO_BOARD, Captured, counted, seen
@@ -201,13 +202,14 @@ class Reader:
             try:
                 yield from self.line(number, line)
             except Unreadable as why:
+                self.no_dump_came()
                 self.unread(number, why)
         yield from self.closed()
         self.no_dump_came()
 
     def lines(self):
         """Number and text of each line."""
-        for number in range(1, 1 << 62):
+        for number in itertools.count(1):
             line = self.stream.readline(LONGEST_LINE + 1)
             if not line:
                 return
@@ -225,16 +227,20 @@ class Reader:
         """The packets that are whole with this line."""
         try:
             part = part_of(line, self.dump)
-        except Unreadable:
-            if self.dump and row_like(line):
-                self.leave(number)
+        except Unreadable as why:
+            offset = offset_of(line)
+            if offset == 0:                                 # the packet above is whole, the one that begins here is not
+                yield from self.closed()
+                self.heading, self.leaving = None, f"line {number}"
+            elif self.dump and offset is not None:
+                self.leave(why)
             raise
         if isinstance(part, Row) and part.data and part.offset == 0:
             yield from self.closed()
             self.begin(number)
         if isinstance(part, (Row, Repeated)):
-            self.row(number, part)
-            if isinstance(part, Row) and not part.data:
+            self.row(part)
+            if part == Row(len(self.dump.data), b""):       # the dump's last line
                 yield from self.closed()
             return
         yield from self.closed()
@@ -245,11 +251,12 @@ class Reader:
             self.counts["lines with a packet"] += 1
             yield Captured(f"line {number}", part.data, self.direction(part))
         else:
-            self.counts["blank lines and comments"] += 1
+            self.counts["blank or comments"] += 1
 
-    def row(self, number, part):
+    def row(self, part):
+        """Takes in a row of the open dump."""
         if self.leaving:
-            raise Unreadable(f"a row of the packet from line {self.leaving}, which is left out")
+            raise Unreadable(f"a row of the packet from {self.leaving}, which is left out")
         if not self.dump:
             raise Unreadable("a row of a dump without the rows before it")
         self.counts["rows"] += 1
@@ -260,9 +267,8 @@ class Reader:
             self.dump.add(part)
             if len(self.dump.data) > LONGEST_PACKET:
                 raise Unreadable(f"more than {LONGEST_PACKET:,} bytes in one dump")
-        except Unreadable:
-            self.leave(number)
-            raise
+        except Unreadable as why:
+            self.leave(why)
 
     def begin(self, number):
         """A dump begins; the line above may say its time and direction."""
@@ -273,10 +279,10 @@ class Reader:
             self.heading = None
         self.dump, self.leaving = Dump(f"line {number}", direction), None
 
-    def leave(self, number):
+    def leave(self, why):
         """A dump with a row that can't be read is no packet."""
-        self.unread(number, f"the packet from {self.dump.place} is left out")
-        self.leaving, self.dump = self.dump.place.split()[1], None
+        place, self.leaving, self.dump = self.dump.place, self.dump.place, None
+        raise Unreadable(f"{why}; the packet from {place} is left out")
 
     def closed(self):
         """The packet of the open dump, which has ended."""
@@ -292,7 +298,7 @@ class Reader:
             self.heading = None
 
     def unread(self, number, why):
-        self.counts["lines not read"] += 1
+        self.counts["not read"] += 1
         self.teller.fault(f"line {number}: not read: {why}")
 
     def direction(self, part):
@@ -311,10 +317,14 @@ class Reader:
     def summary(self):
         """How the lines were read, in words."""
         count = self.counts
-        yield (f"{counted(count['lines'], 'line')}: {counted(count['lines with a packet'], 'packet')} of one line each, "
-               f"{counted(count['dumps'], 'packet')} from dumps of {counted(count['rows'], 'row')} with an offset column "
-               f"and {counted(count['headings'], 'heading')}, {count['blank lines and comments']:,} blank or comments, "
-               f"{count['lines not read']:,} not read")
+        parts = []
+        if count["lines with a packet"]:
+            parts.append(f"{counted(count['lines with a packet'], 'packet')} of one line each")
+        if count["dumps"]:
+            parts.append(f"{counted(count['dumps'], 'packet')} of dumps with an offset column ({counted(count['rows'], 'row')}, "
+                         f"{counted(count['headings'], 'heading')} above them)")
+        parts += [f"{count[kind]:,} {kind}" for kind in ("blank or comments", "not read")]
+        yield f"{counted(count['lines'], 'line')}: {', '.join(parts)}"
         times = [f"{TIME_FORMS[key[1]]} ({number:,})" for key, number in count.items() if key[0] == "time"]
         if times:
             yield f"times in front, read as {', '.join(times)}: not used, a log has no clock"
@@ -323,6 +333,7 @@ class Reader:
             yield f"directions: {', '.join(marks)}; in, rx and i are meant from the side of the {self.side or 'board'} (--seen-from)"
 
 
-def row_like(line):
-    """Whether a line that can't be read begins as a dump's row."""
-    return OFFSET.match(line.strip()) is not None
+def offset_of(line):
+    """The offset of a line that can't be read but begins as a dump's row, or None."""
+    found = OFFSET.match(line.strip())
+    return int(found["offset"], 16) if found else None

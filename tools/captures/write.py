@@ -8,13 +8,13 @@ import struct
 from captures.pcap import (APPLICATION, COMMENT, COOKED_LINK, ENHANCED, FLAGS, INBOUND, INTERFACE, INTERFACE_NAME, INTERFACE_WORDS,
                            LARGEST_PACKET, MCTP_PROTOCOL, OURS, OUTBOUND, OUTGOING, SECTION)
 from captures.run import with_lines
-from captures.told import answer_in_words, call_in_words
+from captures.told import answer_in_words, call_in_words, counted
 from second.log import PACKET, POLL
 
 MCTP_DEVICE = 290                   # Linux's ARPHRD_MCTP, in a cooked header
 TICK = 1000                         # microseconds from one record to the next
 CALLS_SHOWN = 8                     # calls before a packet that its comment names
-CLOCK = "The clock is made up: one record of the log a millisecond, from 0. A log has no times."
+CLOCK = "the clock is made up, one record of the log a millisecond: a log has no times"
 SIDE = "The endpoint of EID 8. Inbound packets go to it, outbound packets are handed out by its polls."
 
 
@@ -105,4 +105,5 @@ def write(path, runner, form, output, teller):
         sent[mark] += 1
         framed = cooked(data, mark) if form.link == COOKED_LINK else data
         output.write(form.packet(number * TICK, framed, mark, [f"record {number}, {words}", *calls.told()]))
-    teller.note(f"{sent[INBOUND]:,} packets to the endpoint, {sent[OUTBOUND]:,} from it, link type {form.link}; {CLOCK[0].lower()}{CLOCK[1:]}")
+    teller.note(f"{counted(sent[INBOUND], 'packet')} to the endpoint, {sent[OUTBOUND]:,} from it, link type {form.link}")
+    teller.note(CLOCK)
