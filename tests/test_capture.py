@@ -626,8 +626,8 @@ class Check(Case):
     def test_same(self):
         parts = response_packets(bytes(range(200)))
         status, out, said = self.check([PACKET, *parts])
-        self.assertEqual((status, out), (0, "4 the same; 0 other than the endpoint's; 0 not sent by the endpoint; "
-                                            "0 sent by the endpoint and not by the board\n"), said)
+        self.assertEqual((status, out), (0, "packets: 4 the same; 0 other than the endpoint's; 0 not sent by the endpoint; 0 sent by the endpoint "
+                                            "alone; 0 to the board and refused by the endpoint\n"), said)
 
     def test_differs(self):
         asked, = data_of(ask(GET_STATE))
@@ -653,8 +653,15 @@ class Check(Case):
         asked, = data_of(ask(GET_STATE))
         status, out, _ = self.check([asked, PACKET, REPLY, asked])
         self.assertEqual(status, 1)
-        self.assertEqual(out.count("extra    the endpoint also sends 010908c2"), 2)
+        self.assertIn("extra    before line 3: the endpoint sends 010908c2", out)
+        self.assertIn("extra    at the end: the endpoint sends 010908c2", out)
         self.assertIn("1 the same; 0 other than the endpoint's; 0 not sent by the endpoint; 2 sent", out)
+
+    def test_refused(self):
+        status, out, _ = self.check([bytes((1, 8, 9, 0xC9, 0, 0)), PACKET, REPLY])
+        self.assertEqual(status, 0)
+        self.assertIn("refused  line 1: answer 15: first byte is not 84h, or ROR is 1", out)
+        self.assertIn("1 to the board and refused", out)
 
     def test_readdressed(self):
         asked = bytes((1, 10, 9, 0xC9)) + command()

@@ -131,7 +131,7 @@ def check_capture(given, runner, teller):
             counts = check.compare(Maker(options, quiet).records(again.packets()), log.name, runner, sys.stdout)
     print(check.in_words(counts))
     sys.stdout.flush()
-    return 1 if teller.faults or counts.total() > counts["same"] else 0
+    return 1 if teller.faults or any(counts[kind] for kind in check.DIFFERENCES) else 0
 
 
 # The arguments

@@ -21,8 +21,8 @@ BODY = range(4, 4217)               # lengths of a body
 # completions. drain: packets that the endpoint sends and the board did not get polls of their own.
 Options = collections.namedtuple("Options", "eid readdress everything answer drain", defaults=(OWN_EID, False, False, False, False))
 
-# `captured` is the board's packet at a poll, and None at polls that drain and at all other records
-Record = collections.namedtuple("Record", "tag body captured")
+# Where in the capture a record comes from; at a poll, the packet that the board sent, or None at one that drains.
+Record = collections.namedtuple("Record", "tag body place wanted", defaults=(None, None))
 
 
 def record_bytes(record):
@@ -121,7 +121,7 @@ class Maker:
         held = with_responses(sided) if self.options.answer else ((packet, direction, None) for packet, direction in sided)
         for packet, direction, response in held:
             if direction == TO_BOARD:
-                yield self.record(PACKET, self.readdressed(packet.data, 1))[0]
+                yield self.record(PACKET, self.readdressed(packet.data, 1), packet.place)[0]
             else:
                 if response:
                     yield from self.answered(packet, response)
@@ -196,27 +196,27 @@ class Maker:
 
     # Which records
 
-    def record(self, tag, body=b"", captured=None):
+    def record(self, tag, body=b"", place=None, wanted=None):
         """A record, and the line that the second program prints for it where it follows."""
         self.counts[tag] += 1
-        return Record(tag, body, captured), self.log.line(tag, body) if self.log else None
+        return Record(tag, body, place, wanted), self.log.line(tag, body) if self.log else None
 
     def polls(self, packet):
         """The poll for a packet of the board; before it, if asked for, one for each packet that the endpoint sends instead."""
         wanted = self.readdressed(packet.data, 2)
         while True:
-            record, line = self.record(POLL, captured=packet._replace(data=wanted))
+            record, line = self.record(POLL, b"", packet.place, wanted)
             sent = bytes.fromhex(line[2:]) if self.options.drain and line.startswith("1 ") else None
             if sent is None or stands_for(sent, wanted):
                 yield record
                 return
-            yield record._replace(captured=None)
+            yield record._replace(place=f"before {packet.place}", wanted=None)
 
     def rest(self):
         """Polls for what the endpoint has left at the end."""
         line = "1"
         while line.startswith("1"):
-            record, line = self.record(POLL)
+            record, line = self.record(POLL, b"", "at the end")
             yield record
 
     def answered(self, packet, response):
@@ -243,8 +243,8 @@ class Maker:
             self.teller.note(f"{packet.place}: a response with a body of {counted(len(response.body), 'byte')}: no completion takes it")
             return
         slot = bytes(waiting[:1])
-        yield self.record(TAKE, slot)[0]
-        yield self.record(COMPLETE, slot + response.body)[0]
+        yield self.record(TAKE, slot, packet.place)[0]
+        yield self.record(COMPLETE, slot + response.body, packet.place)[0]
 
     # In words
 
