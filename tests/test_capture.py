@@ -8,6 +8,7 @@ import io
 import os
 import pathlib
 import re
+import signal
 import struct
 import subprocess
 import sys
@@ -809,6 +810,16 @@ class Surroundings(Case):
         ran = subprocess.run([sys.executable, "-B", TOOL, "from-hex", "-"], input=HEX.encode() + b"\n", capture_output=True)
         self.assertEqual((ran.returncode, ran.stdout), (0, record(PACKET)))
 
+    def test_stopped(self):
+        with subprocess.Popen([sys.executable, "-B", TOOL, "from-hex", "-", "-o", self.folder / "o"], stdin=subprocess.PIPE,
+                              stderr=subprocess.PIPE) as running:
+            running.stdin.write(b"words\n")
+            running.stdin.flush()
+            self.assertIn(b"line 1: not read", running.stderr.readline())
+            running.send_signal(signal.SIGINT)
+            self.assertEqual(running.stderr.read(), b"capture.py: stopped\n")
+        self.assertEqual(running.returncode, 130)
+
     def test_closed_output(self):
         reading, writing = os.pipe()
         os.close(reading)
@@ -816,6 +827,52 @@ class Surroundings(Case):
         ran = subprocess.run([sys.executable, "-B", TOOL, "from-hex", "-"], input=lines, stdout=writing, stderr=subprocess.PIPE)
         os.close(writing)
         self.assertEqual((ran.returncode, ran.stderr), (1, b"capture.py: the output was closed\n"))
+
+
+# The examples of docs/CAPTURES.md
+
+def blocks_of(text):
+    """The line above each indented block, and the block's lines."""
+    for found in re.finditer(r"^(\S.*)\n\n((?:    .*\n|\n(?=    ))+)", text, re.MULTILINE):
+        yield found[1], [line[4:] for line in found[2].splitlines()]
+
+
+def commands_of(lines):
+    """Each command of a block, and the lines below it."""
+    found = []
+    for line in lines:
+        if line.startswith("$ "):
+            found.append((line[2:], []))
+        elif found:
+            found[-1][1].append(line)
+    return found
+
+
+class Examples(Case):
+    def test_examples(self):
+        tried = 0
+        for above, lines in blocks_of((HERE.parent / "docs" / "CAPTURES.md").read_text()):
+            name = re.search(r"\(`(.*)`\):$", above)
+            if name:
+                (self.folder / name[1]).write_text("\n".join(lines[:lines.index("")]) + "\n")
+            for line, wanted in commands_of(lines):
+                with self.subTest(line):
+                    printed = self.printed(line.split())
+                    if printed is not None:
+                        self.assertEqual(printed, wanted)
+                        tried += 1
+        self.assertEqual(tried, 5)
+
+    def printed(self, words):
+        """What a command prints; None for one of another program."""
+        if words[0] == "./mi-log":
+            return list(second_lines(self.folder / words[2]))
+        if words[0] != "tools/capture.py":
+            return None
+        given = [HERE.parent / word if word.startswith("tests/") else self.folder / word if re.search(r"\.\w+$", word) else word
+                 for word in words[1:]]
+        _, out, said = self.run_tool(*given)
+        return (said + out).splitlines()
 
 
 if __name__ == "__main__":
