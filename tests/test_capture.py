@@ -18,8 +18,8 @@ import unittest
 HERE = pathlib.Path(__file__).resolve().parent
 for folder in (HERE, HERE.parent / "tools"):
     sys.path.insert(0, str(folder))
-from captures import cli, hexlines, pcap, told  # noqa: E402
-from records import POLL, ask, command, complete, control, packet, packets, take  # noqa: E402
+from captures import cli, pcap, told  # noqa: E402
+from records import POLL, ask, command, complete, packet, take  # noqa: E402
 from second import log as second_log  # noqa: E402
 from second.wire import GET_STATE, PAUSE, packet_of, response  # noqa: E402
 from stored import stored_logs  # noqa: E402
@@ -81,10 +81,11 @@ class Case(unittest.TestCase):
     def made(self, command_name, data, *options, status=0):
         """The log that a command makes of these bytes, and what it says."""
         source, log = self.folder / "in", self.folder / "made.log"
+        log.unlink(missing_ok=True)
         source.write_bytes(data if isinstance(data, bytes) else data.encode())
         found, _, said = self.run_tool(command_name, source, "-o", log, *options)
         self.assertEqual(found, status, said)
-        return log.read_bytes(), said
+        return log.read_bytes() if log.exists() else b"", said
 
     def from_hex(self, text, *options, status=0):
         return self.made("from-hex", text, *options, status=status)
@@ -128,9 +129,8 @@ ONE_LINE = {
     "mark and time": "> 12:34:56.5 " + HEX,
     "byte order mark": "\ufeff" + HEX,
 }
-MARKS = {">": told.TO_BOARD, "->": told.TO_BOARD, "-->": told.TO_BOARD, "in": told.TO_BOARD, "rx": told.TO_BOARD, "i": told.TO_BOARD,
-         "RX:": told.TO_BOARD, "[in]": told.TO_BOARD, "<": told.FROM_BOARD, "<-": told.FROM_BOARD, "out": told.FROM_BOARD,
-         "tx": told.FROM_BOARD, "O": told.FROM_BOARD, "TX": told.FROM_BOARD}
+MARKS = {**dict.fromkeys((">", "->", "-->", "in", "rx", "i", "RX:", "[in]"), told.TO_BOARD),
+         **dict.fromkeys(("<", "<-", "<--", "out", "tx", "O", "TX:", "[out]"), told.FROM_BOARD)}
 REFUSED_LINES = {
     "010809c": "odd number",
     "01 08 zz": "'zz' is no hex byte",
@@ -269,7 +269,8 @@ def tshark(data):
     yield ""
 
 
-DUMPS = {"xxd": xxd, "hexdump -C": hexdump, "tcpdump -x": tcpdump, "tcpdump -X": lambda data: tcpdump(data, True), "od": od, "tshark": tshark}
+DUMPS = {"xxd": xxd, "hexdump -C": hexdump, "tcpdump -x": tcpdump, "tcpdump -X": lambda data: tcpdump(data, True), "od": od,
+         "tshark": tshark}
 
 
 class Dumps(Case):
@@ -302,8 +303,8 @@ class Dumps(Case):
         broken = {
             "a row is missing": (rows[:1] + rows[2:], "offset 20 where 10 was expected"),
             "no hex in a row": (rows[:1] + ["00000010: 01zz"] + rows[2:], "no hex byte"),
-            "a text column of other bytes": (list(hexdump(PACKET))[:1] + ["00000010  00 00  |ab|"], "does not say what the bytes say"),
-            "octal offsets": (["0000000 01 08 09 c9 84 08 00 00 00 00 00 00 00 00 00 00", "0000020 00 00"], "offset 20 where 10 was expected"),
+            "another text column": (list(hexdump(PACKET))[:1] + ["00000010  00 00  |ab|"], "does not say what the bytes say"),
+            "octal offsets": ([f"0000000 {spaced(' ', LONG[:16])}", "0000020 00 00"], "offset 20 where 10 was expected"),
         }
         for name, (lines, reason) in broken.items():
             with self.subTest(name):
@@ -325,7 +326,8 @@ class Dumps(Case):
                 self.assertTrue(log.endswith(record(PACKET)))
 
     def test_repeats_without_end(self):
-        log, said = self.from_hex("\n".join([*list(hexdump(bytes((1, 8, 9, 0xC9)) + bytes(60)))[:1], "*", "00000018", HEX]), status=1)
+        rows = list(hexdump(bytes((1, 8, 9, 0xC9)) + bytes(60)))
+        log, said = self.from_hex("\n".join([rows[0], "*", "00000018", HEX]), status=1)
         self.assertEqual(log, record(PACKET))
         self.assertIn("'00000018' may be an offset or bytes: as an offset, 10 and a multiple of 10 more was expected", said)
 
@@ -377,7 +379,8 @@ class ClassicPcap(Case):
         for order in "<>":
             for nano in (False, True):
                 with self.subTest(order, nano=nano):
-                    self.assertEqual(self.from_pcap(classic([PACKET, REPLY, PACKET], order, nano))[0], record(PACKET) + POLL + record(PACKET))
+                    log, _ = self.from_pcap(classic([PACKET, REPLY, PACKET], order, nano))
+                    self.assertEqual(log, record(PACKET) + POLL + record(PACKET))
 
     def test_cooked(self):
         other = struct.pack(">HHH8xH", 0, 1, 0, 0x0800) + bytes(20)
@@ -433,8 +436,8 @@ class Pcapng(Case):
 
     def test_sections_and_other_blocks(self):
         comment = option("<", 1, b"a comment") + option("<", 0, b"")
-        data = (section("<", comment) + interface("<", options=comment) + block("<", 5, bytes(12)) + enhanced(PACKET, options=comment)
-                + section(">") + block(">", 4, bytes(8)) + interface(">") + enhanced(PACKET, ">"))
+        data = (section("<", comment) + interface("<", options=comment) + block("<", 5, bytes(12))
+                + enhanced(PACKET, options=comment) + section(">") + block(">", 4, bytes(8)) + interface(">") + enhanced(PACKET, ">"))
         self.assertEqual(self.from_pcap(data)[0], record(PACKET) * 2)
 
     def test_interfaces(self):
@@ -613,7 +616,7 @@ class Making(Case):
         tiny = bytes((1, 9, 8, 0xC1)) + response(1, 0, bytes(3))
         log, _, said = self.answered([PACKET, tiny])
         self.assertEqual(log, record(PACKET) + POLL)
-        self.assertIn("no completion takes it", said)
+        self.assertIn("no completion takes a response of 11 bytes", said)
 
 
 # A board beside the endpoint
@@ -627,8 +630,8 @@ class Check(Case):
     def test_same(self):
         parts = response_packets(bytes(range(200)))
         status, out, said = self.check([PACKET, *parts])
-        self.assertEqual((status, out), (0, "packets: 4 the same; 0 other than the endpoint's; 0 not sent by the endpoint; 0 sent by the endpoint "
-                                            "alone; 0 to the board and refused by the endpoint\n"), said)
+        self.assertEqual((status, out), (0, "packets: 4 the same; 0 other than the endpoint's; 0 not sent by the endpoint; "
+                                            "0 sent by the endpoint alone; 0 to the board and refused by the endpoint\n"), said)
 
     def test_differs(self):
         asked, = data_of(ask(GET_STATE))
@@ -741,9 +744,11 @@ class Writing(Case):
         found = list(self.options_of(self.to_pcap(log)[0]))
         self.assertEqual([dict(each)[2] for each in found], [b"\1\0\0\0", b"\1\0\0\0", b"\2\0\0\0"])
         comments = [[value.decode() for code, value in each if code == 1] for each in found]
-        self.assertEqual(comments, [["record 1, answer 13: destination is not our EID (flag bit 8)"], ["record 2, answer 1: command complete"],
+        self.assertEqual(comments, [["record 1, answer 13: destination is not our EID (flag bit 8)"],
+                                    ["record 2, answer 1: command complete"],
                                     ["record 5, answer 1: the endpoint sends this packet",
-                                     "before it: record 3, take of slot 0, answer 0: done; record 4, completion of slot 0, answer 0: done"]])
+                                     "before it: record 3, take of slot 0, answer 0: done; "
+                                     "record 4, completion of slot 0, answer 0: done"]])
 
     def test_many_calls_before_a_packet(self):
         found = list(self.options_of(self.to_pcap(take() * 20 + packet(command()))[0]))
@@ -786,7 +791,8 @@ class Surroundings(Case):
 
     def test_output_can_not_be_written(self):
         (self.folder / "in").write_text(HEX)
-        for path, words in ((self.folder, "can't be written"), (self.folder / "none" / "o", "can't be written"), (self.folder / "in", "is the input")):
+        for path, words in ((self.folder, "can't be written"), (self.folder / "none" / "o", "can't be written"),
+                            (self.folder / "in", "is the input")):
             status, _, said = self.run_tool("from-hex", self.folder / "in", "-o", path)
             self.assertEqual(status, 1)
             self.assertIn(words, said)
@@ -800,7 +806,28 @@ class Surroundings(Case):
         status, _, said = self.run_tool("to-pcap", self.folder / "in", "-o", self.folder / "o", runner=fails)
         self.assertEqual(status, 1)
         self.assertIn("mi-log ended with status 1", said)
-        self.assertEqual(self.run_tool("to-pcap", self.folder / "in", "-o", self.folder / "o", runner=lambda path: iter(["1"]))[0], 1)
+        self.assertEqual(self.run_tool("to-pcap", self.folder / "in", "-o", self.folder / "o", runner=lambda _: iter(["1"]))[0], 1)
+
+    def test_failure_leaves_the_output_alone(self):
+        def fails(path):
+            raise told.Failure("no log program")
+            yield
+        (self.folder / "in").write_bytes(record(PACKET))
+        (self.folder / "o").write_text("kept")
+        for given in (["to-pcap", self.folder / "in"], ["from-pcap", self.folder / "in"], ["from-hex", self.folder / "in"]):
+            with self.subTest(given[0]):
+                self.assertEqual(self.run_tool(*given, "-o", self.folder / "o", runner=fails)[0], 1)
+                self.assertEqual((self.folder / "o").read_text(), "kept")
+
+    def test_a_log_is_no_capture(self):
+        (self.folder / "in").write_bytes(record(PACKET))
+        for name in ("from-hex", "check"):
+            self.assertIn("looks like a log", self.run_tool(name, self.folder / "in")[2])
+
+    def test_many_notes_are_counted(self):
+        log, said = self.from_pcap(classic([REPLY] * 50), "--answer")
+        self.assertEqual(said.count("who has no command waiting"), 3)
+        self.assertIn("responses without a waiting command: 50 in all", said)
 
     def test_wrong_arguments(self):
         for given in ([], ["from-hex"], ["from-hex", "-", "--eid", "256"], ["from-hex", "-", "--eid", "x"], ["other"]):

@@ -1,6 +1,7 @@
 """The command line of tools/capture.py."""
 import argparse
 import contextlib
+import itertools
 import os
 import shutil
 import sys
@@ -12,6 +13,7 @@ from captures.told import SIDES, Failure, Teller
 
 TEXT_MARKS = {b"\x1f\x8b": "compressed with gzip: unpack it first", b"\xff\xfe": "UTF-16 text: save it as UTF-8",
               b"\xfe\xff": "UTF-16 text: save it as UTF-8"}
+LOG_TAGS = [bytes((tag,)) for tag in range(1, 7)]
 READERS = {"hex": hexlines.Reader, "pcap": pcap.Reader}
 
 
@@ -73,14 +75,21 @@ def kind_of(stream):
     for magic, what in TEXT_MARKS.items():
         if begin.startswith(magic):
             raise Failure(f"it is {what}")
+    if begin[:1] in LOG_TAGS:
+        raise Failure("it looks like a log, and not like a capture: a log has no packets of a board")
     return "pcap" if begin in pcap.MAGICS else "hex"
 
 
 # The commands
 
+def begun(items):
+    """The items, the first of which is there already: what can't be read at all then fails before a file is written over."""
+    return itertools.chain(list(itertools.islice(items, 1)), items)
+
+
 def told(teller, *parts):
     """The summaries of a reader and a maker."""
-    for part in parts:
+    for part in (teller, *parts):
         for words in part.summary():
             teller.note(words)
 
@@ -91,8 +100,9 @@ def from_capture(kind, given, runner, teller):
         if kind == "hex" and kind_of(stream) == "pcap":
             raise Failure(f"{given.file} is a pcap or pcapng file: use from-pcap")
         reader, maker = READERS[kind](stream, teller, given.seen_from), Maker(options, teller)
+        records = begun(maker.records(reader.packets()))
         with created(given.output, given.file) as output:
-            for record in maker.records(reader.packets()):
+            for record in records:
                 output.write(record_bytes(record))
     told(teller, reader, maker)
     return 1 if teller.faults else 0
@@ -109,8 +119,10 @@ def from_pcap(given, runner, teller):
 def to_pcap(given, runner, teller):
     link = {"cooked": pcap.COOKED_LINK, "mctp": pcap.MCTP_LINK}[given.link]
     form = write.Pcap(link) if given.classic else write.Pcapng(link)
-    with on_disk(given.file) as path, created(given.output, given.file) as output:
-        write.write(path, runner, form, output, teller)
+    with on_disk(given.file) as path:
+        records = begun(run.with_lines(path, runner))
+        with created(given.output, given.file) as output:
+            write.write(records, form, output, teller)
     return 1 if teller.faults else 0
 
 
@@ -144,8 +156,8 @@ def eid(text):
 
 
 def arguments():
-    parser = argparse.ArgumentParser(prog="capture.py", description="Makes logs from captures of a board, and captures from logs.",
-                                     epilog="docs/CAPTURES.md has examples.")
+    parser = argparse.ArgumentParser(prog="capture.py", epilog="docs/CAPTURES.md has examples.",
+                                     description="Makes logs from captures of a board, and captures from logs.")
     commands = parser.add_subparsers(required=True, metavar="COMMAND")
     chosen = argparse.ArgumentParser(add_help=False)
     chosen.add_argument("--eid", type=eid, default=OWN_EID, metavar="N", help="the board's EID in the capture (8 if not given)")

@@ -1,7 +1,7 @@
 """Packets from text: lines of hex with a packet each, and dumps with an offset column.
 
-A line is [time] [direction] bytes; time and direction may stand in either order. A dump's rows begin with their offset, and offset 0 begins
-a packet. Where a line can be read in two ways it is refused, with the reason; no way is picked silently.
+A line is [time] [direction] bytes; time and direction may stand in either order. A dump's rows begin with their offset, and offset 0
+begins a packet. Where a line can be read in two ways it is refused, with the reason; no way is picked silently.
 """
 import collections
 import itertools
@@ -24,7 +24,7 @@ OFFSET = re.compile(r"(?P<prefix>0x)?(?P<offset>[0-9a-f]{4,8})(?P<colon>:)?(?=\s
 TOKEN = re.compile(r"(?P<prefix>0x)?(?P<digits>[0-9a-f]+)", re.IGNORECASE)
 SEPARATORS = {":": "':'", "-": "'-'", " ": "spaces"}
 
-# The parts of a line: a packet's bytes, a dump's row, the mark that rows were left out, a line that only stands before a dump, nothing.
+# What a line is: a packet's bytes, a dump's row, the mark for rows that repeat, a line that only stands above a dump, nothing.
 Bytes = collections.namedtuple("Bytes", "form mark data")
 Row = collections.namedtuple("Row", "offset data")
 Repeated = collections.namedtuple("Repeated", "")
@@ -330,7 +330,8 @@ class Reader:
             yield f"times in front, read as {', '.join(times)}: not used, a log has no clock"
         marks = [f"'{key[1]}' {key[2]} ({number:,})" for key, number in count.items() if key[0] == "mark"]
         if marks:
-            yield f"directions: {', '.join(marks)}; in, rx and i are meant from the side of the {self.side or 'board'} (--seen-from)"
+            side = self.side or "board"
+            yield f"directions: {', '.join(marks)}; in, rx and i are meant from the side of the {side} (--seen-from)"
 
 
 def offset_of(line):

@@ -1,8 +1,8 @@
 """A log's records from captured packets.
 
-Packets to the board become packets of the log, and the board's own packets become polls, so that the log program sends at the same places.
-What the drive did is not on the wire; with `answer` each command's response gets a take and a completion with the captured body, just
-before the poll of its first packet. Which responses need them is decided by the second program of tests/, which follows the log.
+Packets to the board become packets of the log, and the board's own packets become polls, so that the log program sends at the same
+places. What the drive did is not on the wire; with `answer` each command's response gets a take and a completion with the captured
+body, just before the poll of its first packet. Which responses need them is known by the second program of tests/, which follows.
 """
 import collections
 
@@ -14,12 +14,11 @@ OWN_EID = 8                         # the log program's EID
 LONGEST_RECORD = 4300
 WINDOW = 1000                       # packets between the first and the last of one response
 NVME_MI = 4                         # message type
-SHOWN = 3                           # marks against the header that are told one by one
 BODY = range(4, 4217)               # lengths of a body
 
-# eid: the board's in the capture. readdress: its destination byte becomes 8. everything: also packets to other EIDs. answer: takes and
-# completions. drain: packets that the endpoint sends and the board did not get polls of their own.
-Options = collections.namedtuple("Options", "eid readdress everything answer drain", defaults=(OWN_EID, False, False, False, False))
+# eid: the board's in the capture. readdress: its destination byte becomes 8. everything: also packets to other EIDs. answer: takes
+# and completions. drain: packets that the endpoint sends and the board did not send get polls of their own.
+Options = collections.namedtuple("Options", "eid readdress everything answer drain", defaults=(False,))
 
 # Where in the capture a record comes from; at a poll, the packet that the board sent, or None at one that drains.
 Record = collections.namedtuple("Record", "tag body place wanted", defaults=(None, None))
@@ -54,7 +53,7 @@ class Response:
 
     @property
     def body(self):
-        """From byte 4 to the check. Of a response that is not whole, all that is there: then the packets that are there come out equal."""
+        """From byte 4 to the check. Of a response that is not whole, all that is there: so its packets come out as captured."""
         return bytes(self.message[4:-4] if self.whole else self.message[4:])
 
 
@@ -111,7 +110,6 @@ class Maker:
     def __init__(self, options, teller):
         self.options, self.teller = options, teller
         self.counts = collections.Counter()
-        self.contradictions = 0
         self.asked = collections.Counter()                  # packets with TO 1 to each EID
         self.foreign = set()                                # the board's messages under way that are not NVMe-MI
         self.log = Log() if options.answer or options.drain else None
@@ -154,14 +152,9 @@ class Maker:
         else:
             direction = packet.direction
             if {direction, by_header} == {TO_BOARD, FROM_BOARD}:
-                self.contradicted(packet, direction, by_header)
+                self.teller.example("marked against their EIDs and TO (perhaps another --seen-from is right)",
+                                    f"{packet.place}: marked {direction}, but its EIDs and TO say {by_header}; the mark is used")
         return "of other message types" if direction == FROM_BOARD and self.is_foreign(data) else direction
-
-    def contradicted(self, packet, direction, by_header):
-        """A mark against the header is told for the first few packets; the summary has the number."""
-        self.contradictions += 1
-        if self.contradictions <= SHOWN:
-            self.teller.note(f"{packet.place}: marked {direction}, but its EIDs and TO say {by_header}; the mark is used")
 
     def by_header(self, data):
         """The same by EIDs and TO alone."""
@@ -191,7 +184,7 @@ class Maker:
         return who in self.foreign
 
     def readdressed(self, data, place):
-        """With `readdress`, the board's EID at this byte becomes 8, and 8 becomes the board's, so that no other packet turns into one for it."""
+        """With `readdress`, the board's EID at this byte becomes 8, and 8 the board's, so that no other packet becomes one for it."""
         return swapped(data, place, self.options.eid, OWN_EID) if self.options.readdress else data
 
     # Which records
@@ -221,30 +214,38 @@ class Maker:
 
     def answered(self, packet, response):
         """The take and the completion of a command's response, unless the endpoint made the response itself."""
-        message = response.message
-        if len(message) < 4:
+        if len(response.message) < 4 or message_header(response.message).nmimt == CONTROL:
             return
-        header = message_header(message)
-        if header.nmimt == CONTROL:
+        slot = self.waiting_slot(packet, response)
+        if slot is None:
             return
-        held = [slot for slot in (header.csi, 1 - header.csi) if getattr(self.log.endpoint.jobs[slot], "who", None) == response.who]
-        waiting = [slot for slot in held if self.log.endpoint.state(slot) == "Process untaken"]
-        if not waiting:
-            if not any(self.log.endpoint.state(slot) in ("Process answered", "Transmit") for slot in held):
-                self.teller.note(f"{packet.place}: a response to EID {response.who[0]} under tag {response.who[1]}, "
-                                 "who has no command waiting in the endpoint")
-            return
+        size = counted(len(response.message), "byte")
         if not response.whole:
-            self.teller.note(f"{packet.place}: the response that begins here is not whole in the capture; it is completed with "
-                             f"the {counted(len(message), 'byte')} that are there")
-        elif not is_sealed(bytes(message)):
-            self.teller.note(f"{packet.place}: the integrity check of the response that begins here is wrong in the capture")
+            self.teller.example("responses that are not whole",
+                                f"{packet.place}: the response that begins here is not whole in the capture; it is completed with the "
+                                f"{size} that are there")
+        elif not is_sealed(bytes(response.message)):
+            self.teller.example("responses with a wrong integrity check",
+                                f"{packet.place}: the integrity check of the response that begins here is wrong in the capture")
         if len(response.body) not in BODY:
-            self.teller.note(f"{packet.place}: a response with a body of {counted(len(response.body), 'byte')}: no completion takes it")
+            self.teller.example("responses that no completion takes", f"{packet.place}: no completion takes a response of {size}")
             return
-        slot = bytes(waiting[:1])
-        yield self.record(TAKE, slot, packet.place)[0]
-        yield self.record(COMPLETE, slot + response.body, packet.place)[0]
+        yield self.record(TAKE, bytes((slot,)), packet.place)[0]
+        yield self.record(COMPLETE, bytes((slot,)) + response.body, packet.place)[0]
+
+    def waiting_slot(self, packet, response):
+        """The slot whose command this response answers, or None if there is none that waits."""
+        endpoint, csi = self.log.endpoint, message_header(response.message).csi
+        held = {slot: endpoint.state(slot) for slot in (csi, 1 - csi)
+                if getattr(endpoint.jobs[slot], "who", None) == response.who}
+        for slot, state in held.items():
+            if state == "Process untaken":
+                return slot
+        if not {"Process answered", "Transmit"} & set(held.values()):
+            self.teller.example("responses without a waiting command",
+                                f"{packet.place}: a response to EID {response.who[0]} under tag {response.who[1]}, who has no command "
+                                "waiting in the endpoint")
+        return None
 
     # In words
 
@@ -255,12 +256,11 @@ class Maker:
         left = [f"{number:,} {kind}" for kind, number in count.items() if isinstance(kind, str)]
         if left:
             yield f"left out: {', '.join(left)}"
-        if self.contradictions:
-            yield f"marked against their EIDs and TO: {counted(self.contradictions, 'packet')}; perhaps another --seen-from is right"
         if options.readdress and options.eid != OWN_EID:
             yield f"destination {options.eid} was written as {OWN_EID} (--readdress)"
         elif options.eid != OWN_EID:
-            yield f"the log program's EID is {OWN_EID}: it answers 13 to packets for EID {options.eid}; --readdress writes them to {OWN_EID}"
+            yield (f"the log program's EID is {OWN_EID}: it answers 13 to packets for EID {options.eid}; "
+                   f"--readdress writes them to {OWN_EID}")
         if count[POLL] and not options.answer:
             yield "the drive's answers are not on the wire: without --answer the polls of command responses answer 0"
         if not count[PACKET] and self.asked:
@@ -269,7 +269,7 @@ class Maker:
 
 
 def stands_for(sent, wanted):
-    """Whether the endpoint's packet stands at the place of the board's: the same requester and SOM, and both control or both not."""
+    """Whether the endpoint's packet stands for the board's: the same requester and SOM, and both control or both not."""
     if len(wanted) < 6:
         return True
     ours, theirs = packet_fields(sent), packet_fields(wanted)

@@ -1,7 +1,7 @@
 """Packets from capture files: classic pcap and pcapng, both byte orders.
 
-MCTP packets stand in captures of three link types: as they are (291), or behind the header that Linux puts before packets of an interface
-whose type libpcap does not know (113 and 276, "cooked"). A damaged file gives the packets before the damage.
+MCTP packets stand in captures of three link types: as they are (291), or behind the header of Linux's "cooked" captures (113 and 276),
+which libpcap takes for an interface whose type it does not know. A damaged file gives the packets before the damage.
 """
 import collections
 import itertools
@@ -28,19 +28,24 @@ MAGICS = {
     b"\x0a\x0d\x0d\x0a": ("pcapng", None),
 }
 ORDERS = {b"\x4d\x3c\x2b\x1a": "<", b"\x1a\x2b\x3c\x4d": ">"}
-OTHER_FILES = ((b"\x1f\x8b", "compressed with gzip: unpack it first"), (b"\x28\xb5\x2f\xfd", "compressed with zstd: unpack it first"),
+OTHER_FILES = ((b"\x1f\x8b", "compressed with gzip: unpack it first"),
+               (b"\x28\xb5\x2f\xfd", "compressed with zstd: unpack it first"),
                (b"\x34\xcd\xb2\xa1", "a pcap file of a modified form: save it as pcapng with Wireshark first"),
                (b"snoop", "a snoop file: save it as pcapng with Wireshark first"))
 LINK_NAMES = {0: "BSD loopback", 1: "Ethernet", 101: "raw IP", 189: "USB of Linux", 199: "IPMB", 209: "I2C of Linux",
               220: "USB of Linux", 228: "raw IPv4", 249: "USBPcap", **{number: "user-defined" for number in range(147, 163)}}
 
-# A packet as the file has it: its number from 1, where it begins, the link type, its bytes, how many there were on the wire, the direction
-# that the file marks (INBOUND, OUTBOUND or None), and whether the file is one of ours.
+# A packet as the file has it: its number from 1, where it begins, the link type, its bytes, how many there were on the wire, the
+# direction that the file marks (INBOUND, OUTBOUND or None), and whether the file is one of ours.
 Frame = collections.namedtuple("Frame", "number offset link data length mark ours")
 
 
 class Damage(Exception):
     """Where and why a file can't be read further."""
+
+
+class BadBlock(Exception):
+    """Why a block of a file that goes on behind it gives no packet."""
 
 
 class Source:
@@ -178,9 +183,23 @@ def simple(block, section):
     return 0, kept, block.body[4:4 + kept], length, None
 
 
+def ng_packet(block, section, number):
+    """The packet of a block as a Frame. Raises BadBlock."""
+    place = f"packet {number}, offset {block.offset}"
+    try:
+        interface, kept, data, length, mark = simple(block, section) if block.kind == SIMPLE else enhanced(block)
+    except struct.error:
+        raise BadBlock(f"{place}: its block is too short") from None
+    if len(data) < kept:
+        raise BadBlock(f"{place}: {len(data)} of {kept:,} bytes are in its block")
+    if interface >= len(section.links):
+        raise BadBlock(f"{place}: no interface {interface} was described")
+    return Frame(number, block.offset, section.links[interface][0], data, length, mark, section.ours)
+
+
 def ng_frames(source, teller):
     """The packets of all sections; those of interfaces with another link type are left out, and told."""
-    section, number, found, refused = None, 0, False, {}
+    section, number, found, refused = None, 0, False, collections.Counter()
     for block in blocks(source):
         if block.kind == SECTION:
             section = Section(block)
@@ -190,18 +209,14 @@ def ng_frames(source, teller):
         elif block.kind in (ENHANCED, OLD_PACKET, SIMPLE):
             number += 1
             try:
-                interface, kept, data, length, mark = simple(block, section) if block.kind == SIMPLE else enhanced(block)
-            except struct.error:
-                teller.fault(f"packet {number}, offset {block.offset}: its block is too short: left out")
+                frame = ng_packet(block, section, number)
+            except BadBlock as bad:
+                teller.fault(f"{bad}: left out")
                 continue
-            if len(data) < kept:
-                teller.fault(f"packet {number}, offset {block.offset}: {len(data)} of {kept:,} bytes are in its block: left out")
-            elif interface >= len(section.links):
-                teller.fault(f"packet {number}, offset {block.offset}: no interface {interface} was described: left out")
-            elif not is_read(section.links[interface][0]):
-                refused[section.links[interface][0]] = refused.get(section.links[interface][0], 0) + 1
+            if is_read(frame.link):
+                yield frame
             else:
-                yield Frame(number, block.offset, section.links[interface][0], data, length, mark, section.ours)
+                refused[frame.link] += 1
     for link, count in refused.items():
         if not found:
             raise Failure(link_words(link))

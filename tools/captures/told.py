@@ -9,6 +9,7 @@ Captured = collections.namedtuple("Captured", "place data direction")
 
 TO_BOARD, FROM_BOARD = "to the board", "from the board"
 SIDES = ("board", "host")           # from which side words like `in` and `out` are meant
+SHOWN = 3                           # notes of one kind that are said one by one
 
 
 def seen(inward, side):
@@ -25,6 +26,7 @@ class Teller:
 
     def __init__(self, quiet=False):
         self.quiet, self.faults = quiet, 0
+        self.repeated = collections.Counter()               # how often a kind of note came
 
     def note(self, words):
         if not self.quiet:
@@ -33,6 +35,17 @@ class Teller:
     def fault(self, words):
         self.faults += 1
         self.note(words)
+
+    def example(self, kind, words):
+        """A note of a kind that may come often: the first few are said, the others counted."""
+        self.repeated[kind] += 1
+        if self.repeated[kind] <= SHOWN:
+            self.note(words)
+
+    def summary(self):
+        for kind, number in self.repeated.items():
+            if number > SHOWN:
+                yield f"{kind}: {number:,} in all"
 
 
 def counted(number, word):

@@ -1,13 +1,12 @@
 """A capture of a log and its answers: the packets to the endpoint, and those that polls handed out.
 
-The captures are for Wireshark. Packets stand behind Linux's cooked header (link type 113), by which it finds MCTP; link type 291, MCTP alone,
-is for programs that know it.
+The captures are for Wireshark. Packets stand behind Linux's cooked header (link type 113), by which it finds MCTP; link type 291,
+MCTP alone, is for programs that know it.
 """
 import struct
 
 from captures.pcap import (APPLICATION, COMMENT, COOKED_LINK, ENHANCED, FLAGS, INBOUND, INTERFACE, INTERFACE_NAME, INTERFACE_WORDS,
                            LARGEST_PACKET, MCTP_PROTOCOL, OURS, OUTBOUND, OUTGOING, SECTION)
-from captures.run import with_lines
 from captures.told import answer_in_words, call_in_words, counted
 from second.log import PACKET, POLL
 
@@ -45,12 +44,15 @@ class Pcapng:
         self.link = link
 
     def begin(self):
-        return (block(SECTION, struct.pack("<IHHq", 0x1A2B3C4D, 1, 0, -1), option(COMMENT, CLOCK), option(APPLICATION, OURS))
-                + block(INTERFACE, struct.pack("<HHI", self.link, 0, 0), option(INTERFACE_NAME, "mi-log"), option(INTERFACE_WORDS, SIDE)))
+        section = struct.pack("<IHHq", 0x1A2B3C4D, 1, 0, -1)
+        interface = struct.pack("<HHI", self.link, 0, 0)
+        return (block(SECTION, section, option(COMMENT, CLOCK), option(APPLICATION, OURS))
+                + block(INTERFACE, interface, option(INTERFACE_NAME, "mi-log"), option(INTERFACE_WORDS, SIDE)))
 
     def packet(self, time, data, mark, comments):
         head = struct.pack("<IIIII", 0, time >> 32, time & 0xFFFFFFFF, len(data), len(data))
-        return block(ENHANCED, head + padded(data), option(FLAGS, struct.pack("<I", mark)), *(option(COMMENT, words) for words in comments))
+        told = [option(FLAGS, struct.pack("<I", mark))] + [option(COMMENT, words) for words in comments]
+        return block(ENHANCED, head + padded(data), *told)
 
 
 class Pcap:
@@ -85,11 +87,11 @@ class Calls:
         return [f"before it: {'; '.join(words)}"] if words else []
 
 
-def write(path, runner, form, output, teller):
-    """Writes the capture of the log at this path. Faults of the log end it, and are told."""
+def write(records, form, output, teller):
+    """Writes the capture of records with their lines (run.with_lines). A fault of the log ends it, and is told."""
     output.write(form.begin())
     calls, sent = Calls(), {INBOUND: 0, OUTBOUND: 0}
-    for number, tag, body, line in with_lines(path, runner):
+    for number, tag, body, line in records:
         if tag is None:
             teller.fault(f"record {number} of the log is bad (unknown tag, wrong length, or cut): the capture ends before it")
             break
