@@ -523,6 +523,12 @@ class Making(Case):
             self.assertIn(words, said)
         self.assertEqual(self.of([other, PACKET], "--all")[0], record(other) + record(PACKET))
 
+    def test_something_in_front_is_told(self):
+        _, said = self.of([b"\x3a\x0f\x19\x21" + PACKET + b"\x55", b"\x12" + PACKET, PACKET])
+        self.assertIn("packet 1: begins with 3ah, which is not MCTP version 1; the SMBus bytes may still stand in front", said)
+        self.assertIn("packet 2: begins with 12h, which is not MCTP version 1\n", said)
+        self.assertNotIn("packet 3", said)
+
     def test_eid(self):
         asked = bytes((1, 10, 8, 0xC9)) + command()
         replied = bytes((1, 8, 10, 0xC1)) + response(1, 0, bytes(4))

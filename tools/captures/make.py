@@ -144,6 +144,7 @@ class Maker:
         if len(data) > LONGEST_RECORD:
             self.teller.fault(f"{packet.place}: {len(data):,} bytes: a log holds packets of up to {LONGEST_RECORD:,}; left out")
             return "too long"
+        self.look_at_version(packet)
         by_header = self.by_header(data)
         if packet.direction is None:
             if by_header == "too short":
@@ -155,6 +156,14 @@ class Maker:
                 self.teller.example("marked against their EIDs and TO (perhaps another --seen-from is right)",
                                     f"{packet.place}: marked {direction}, but its EIDs and TO say {by_header}; the mark is used")
         return "of other message types" if direction == FROM_BOARD and self.is_foreign(data) else direction
+
+    def look_at_version(self, packet):
+        """Tells a packet that is not of MCTP version 1: something else may stand in front of it."""
+        data = packet.data
+        if data and data[0] & 15 != 1:
+            smbus = "; the SMBus bytes may still stand in front" if data[1:2] == b"\x0f" else ""
+            self.teller.example("packets not of MCTP version 1",
+                                f"{packet.place}: begins with {data[0]:02x}h, which is not MCTP version 1{smbus}")
 
     def by_header(self, data):
         """The same by EIDs and TO alone."""
