@@ -545,8 +545,11 @@ class Making(Case):
         self.assertEqual(log, record(bytes((1, 10, 30, 0xC9)) + command()))
 
     def test_wrong_eid_is_found(self):
-        _, said = self.of([bytes((1, 10, 9, 0xC9)) + command()])
-        self.assertIn("no packet is for EID 8; packets with TO 1 go to EID 10 (1): name the board's with --eid", said)
+        words = "no packet with TO 1 is for EID 8; they go to EID 10 (1): name the board's with --eid"
+        self.assertIn(words, self.of([bytes((1, 10, 9, 0xC9)) + command()])[1])
+        host_is_8 = [bytes((1, 10, 8, 0xC9)) + command(), bytes((1, 8, 10, 0xC1)) + response(1, 0, bytes(4))]
+        self.assertIn(words, self.of(host_is_8)[1])
+        self.assertNotIn(words, self.of([PACKET, REPLY])[1])
 
     def test_without_answer(self):
         log, said = self.of([PACKET, REPLY])

@@ -272,9 +272,9 @@ class Maker:
                    f"--readdress writes them to {OWN_EID}")
         if count[POLL] and not options.answer:
             yield "the drive's answers are not on the wire: without --answer the polls of command responses answer 0"
-        if not count[PACKET] and self.asked:
+        if self.asked and not self.asked[options.eid]:
             eids = ", ".join(f"{eid} ({number:,})" for eid, number in self.asked.most_common(8))
-            yield f"no packet is for EID {options.eid}; packets with TO 1 go to EID {eids}: name the board's with --eid"
+            yield f"no packet with TO 1 is for EID {options.eid}; they go to EID {eids}: name the board's with --eid"
 
 
 def stands_for(sent, wanted):
