@@ -28,6 +28,7 @@ TOOL = HERE.parent / "tools" / "capture.py"
 PACKET = bytes.fromhex("010809c9") + command()              # an MI command to EID 8
 HEX = PACKET.hex()
 REPLY = bytes((1, 9, 8, 0xC1)) + response(1, 0, bytes(4))   # its response
+USER0 = 147                                                 # a link type for private use, here for MCTP packets as they are
 COOKED = struct.pack(">HHH8xH", 0, 290, 0, 0xFA)
 COOKED2 = struct.pack(">HHIHBB8x", 0xFA, 0, 1, 290, 0, 0)
 
@@ -91,7 +92,7 @@ class Case(unittest.TestCase):
         return self.made("from-hex", text, *options, status=status)
 
     def from_pcap(self, data, *options, status=0):
-        return self.made("from-pcap", data, *options, status=status)
+        return self.made("from-pcap", data, "--link", USER0, *options, status=status)
 
 
 # Lines of hex
@@ -334,7 +335,7 @@ class Dumps(Case):
 
 # Capture files
 
-def classic(frames, order="<", nano=False, link=291):
+def classic(frames, order="<", nano=False, link=USER0):
     """A pcap file of (bytes, length on the wire) or bytes."""
     made = struct.pack(order + "IHHiIII", 0xA1B23C4D if nano else 0xA1B2C3D4, 2, 4, 0, 0, 65535, link)
     for frame in frames:
@@ -353,7 +354,7 @@ def section(order="<", options=b""):
     return block(order, 0x0A0D0D0A, struct.pack(order + "IHHq", 0x1A2B3C4D, 1, 0, -1) + options)
 
 
-def interface(order="<", link=291, snap=0, options=b""):
+def interface(order="<", link=USER0, snap=0, options=b""):
     return block(order, 1, struct.pack(order + "HHI", link, 0, snap) + options)
 
 
@@ -399,6 +400,7 @@ class ClassicPcap(Case):
             log, said = self.from_pcap(classic([PACKET], link=link), status=1)
             self.assertIn(words, said)
             self.assertIn("from-hex", said)
+            self.assertEqual(self.from_pcap(classic([PACKET], link=link), "--link", link)[0], record(PACKET))
 
     def test_snap_length(self):
         log, said = self.from_pcap(classic([(PACKET[:10], len(PACKET)), PACKET]), status=1)
@@ -688,7 +690,7 @@ class Check(Case):
         source = self.folder / "board.pcap"
         for data in (classic([PACKET, REPLY]), section() + interface() + enhanced(PACKET) + enhanced(REPLY)):
             source.write_bytes(data)
-            self.assertEqual(self.run_tool("check", source)[0], 0)
+            self.assertEqual(self.run_tool("check", source, "--link", USER0)[0], 0)
 
 
 # Captures from logs
@@ -718,7 +720,7 @@ class Writing(Case):
             wanted = [body for tag, body in records_of(stored.log) if tag == 1]
             sent = [line[2:] for line in stored.output.decode().splitlines() if line.startswith("1 ")]
             bad = b"bad" in stored.output
-            for options, back in (([], []), (["--link", "mctp"], []), (["--classic"], ["--seen-from", "board"])):
+            for options, back in (([], []), (["--link", USER0], []), (["--classic"], ["--seen-from", "board"])):
                 with self.subTest(stored.name, options=options):
                     capture, _ = self.to_pcap(stored.log, *options, status=bad)
                     log, said = self.from_pcap(capture, *back)
@@ -771,7 +773,7 @@ class Writing(Case):
         self.assertIn("the clock is made up", said)
 
     def test_link_types(self):
-        for options, place, link in ((["--classic"], 20, 113), (["--classic", "--link", "mctp"], 20, 291)):
+        for options, place, link in ((["--classic"], 20, 113), (["--classic", "--link", USER0], 20, USER0)):
             capture, _ = self.to_pcap(b"", *options)
             self.assertEqual(struct.unpack_from("<I", capture, place), (link,))
 

@@ -14,7 +14,6 @@ from captures.told import SIDES, Failure, Teller
 TEXT_MARKS = {b"\x1f\x8b": "compressed with gzip: unpack it first", b"\xff\xfe": "UTF-16 text: save it as UTF-8",
               b"\xfe\xff": "UTF-16 text: save it as UTF-8"}
 LOG_TAGS = [bytes((tag,)) for tag in range(1, 7)]
-READERS = {"hex": hexlines.Reader, "pcap": pcap.Reader}
 
 
 # Files
@@ -82,6 +81,13 @@ def kind_of(stream):
 
 # The commands
 
+def reader_of(kind, stream, teller, given):
+    """What reads the packets of a file of this kind."""
+    if kind == "hex":
+        return hexlines.Reader(stream, teller, given.seen_from)
+    return pcap.Reader(stream, teller, given.seen_from, given.link)
+
+
 def begun(items):
     """The items, the first of which is there already: what can't be read at all then fails before a file is written over."""
     return itertools.chain(list(itertools.islice(items, 1)), items)
@@ -99,7 +105,7 @@ def from_capture(kind, given, runner, teller):
     with opened(given.file) as stream:
         if kind == "hex" and kind_of(stream) == "pcap":
             raise Failure(f"{given.file} is a pcap or pcapng file: use from-pcap")
-        reader, maker = READERS[kind](stream, teller, given.seen_from), Maker(options, teller)
+        reader, maker = reader_of(kind, stream, teller, given), Maker(options, teller)
         records = begun(maker.records(reader.packets()))
         with created(given.output, given.file) as output:
             for record in records:
@@ -117,8 +123,7 @@ def from_pcap(given, runner, teller):
 
 
 def to_pcap(given, runner, teller):
-    link = {"cooked": pcap.COOKED_LINK, "mctp": pcap.MCTP_LINK}[given.link]
-    form = write.Pcap(link) if given.classic else write.Pcapng(link)
+    form = (write.Pcap if given.classic else write.Pcapng)(given.link)
     with on_disk(given.file) as path:
         records = begun(run.with_lines(path, runner))
         with created(given.output, given.file) as output:
@@ -132,14 +137,14 @@ def check_capture(given, runner, teller):
     options = Options(given.eid, given.readdress, given.all, answer=True, drain=True)
     with on_disk(given.file) as path, tempfile.NamedTemporaryFile() as log:
         with opened(path) as stream:
-            reader, maker = READERS[kind_of(stream)](stream, teller, given.seen_from), Maker(options, teller)
+            reader, maker = reader_of(kind_of(stream), stream, teller, given), Maker(options, teller)
             for record in maker.records(reader.packets()):
                 log.write(record_bytes(record))
         log.flush()
         told(teller, reader, maker)
         with opened(path) as stream:                        # once more, beside the answers, so that neither is kept in memory
             quiet = Teller(quiet=True)
-            again = READERS[kind_of(stream)](stream, quiet, given.seen_from)
+            again = reader_of(kind_of(stream), stream, quiet, given)
             counts = check.compare(Maker(options, quiet).records(again.packets()), log.name, runner, sys.stdout)
     print(check.in_words(counts))
     sys.stdout.flush()
@@ -149,8 +154,16 @@ def check_capture(given, runner, teller):
 # The arguments
 
 def eid(text):
+    return number_up_to(text, 255)
+
+
+def link(text):
+    return number_up_to(text, 65535)
+
+
+def number_up_to(text, greatest):
     number = int(text, 0)
-    if not 0 <= number <= 255:
+    if not 0 <= number <= greatest:
         raise ValueError
     return number
 
@@ -164,15 +177,17 @@ def arguments():
     chosen.add_argument("--readdress", action="store_true", help="write packets for the board's EID to EID 8, the log program's")
     chosen.add_argument("--all", action="store_true", help="take packets to other EIDs too (the endpoint answers 13)")
     chosen.add_argument("--seen-from", choices=SIDES, help="from which side in and out are meant in the capture's marks")
+    linked = argparse.ArgumentParser(add_help=False)
+    linked.add_argument("--link", type=link, metavar="N", help="packets of link type N are MCTP packets with nothing in front")
     for name, command, words in (("from-hex", from_hex, "makes a log from lines of hex"),
                                  ("from-pcap", from_pcap, "makes a log from a pcap or pcapng file")):
-        made = commands.add_parser(name, parents=[chosen], help=words, description=words.capitalize() + ".")
+        made = commands.add_parser(name, parents=[chosen] if command is from_hex else [chosen, linked], help=words, description=words.capitalize() + ".")
         made.add_argument("file", metavar="FILE", help="the capture; - is standard input")
         made.add_argument("-o", dest="output", metavar="LOG", help="the log; standard output if not given")
         made.add_argument("--answer", action="store_true", help="take and complete each command with its captured response")
         made.set_defaults(command=command)
     words = "compares what a board sent with what the endpoint sends"
-    checked = commands.add_parser("check", parents=[chosen], help=words, description=words.capitalize() + ".")
+    checked = commands.add_parser("check", parents=[chosen, linked], help=words, description=words.capitalize() + ".")
     checked.add_argument("file", metavar="CAPTURE", help="lines of hex, pcap or pcapng; - is standard input")
     checked.set_defaults(command=check_capture)
     words = "makes a capture from a log and its answers"
@@ -180,8 +195,9 @@ def arguments():
     wrote.add_argument("file", metavar="LOG", help="the log; - is standard input")
     wrote.add_argument("-o", dest="output", metavar="FILE", help="the capture; standard output if not given")
     wrote.add_argument("--classic", action="store_true", help="classic pcap, without directions and comments, instead of pcapng")
-    wrote.add_argument("--link", choices=("cooked", "mctp"), default="cooked",
-                       help="cooked: link type 113, which Wireshark opens (the default); mctp: link type 291")
+    wrote.add_argument("--link", type=link, default=pcap.COOKED_LINK, metavar="N",
+                       help="the link type: 113 is Linux cooked, by which Wireshark finds MCTP (the default); under another, packets stand "
+                            "as they are")
     wrote.set_defaults(command=to_pcap)
     return parser
 

@@ -1,7 +1,8 @@
 """Packets from capture files: classic pcap and pcapng, both byte orders.
 
-MCTP packets stand in captures of three link types: as they are (291), or behind the header of Linux's "cooked" captures (113 and 276),
-which libpcap takes for an interface whose type it does not know. A damaged file gives the packets before the damage.
+No link type is assigned to MCTP. libpcap takes Linux's "cooked" captures (113 and 276) for an interface whose type it does not know, and
+there MCTP is known by its protocol number. Packets of another link type are taken for MCTP packets as they are, if that type is named.
+A damaged file gives the packets before the damage.
 """
 import collections
 import itertools
@@ -9,7 +10,7 @@ import struct
 
 from captures.told import Captured, Failure, counted, seen
 
-MCTP_LINK, COOKED_LINK, COOKED2_LINK = 291, 113, 276
+COOKED_LINK, COOKED2_LINK = 113, 276
 MCTP_PROTOCOL = 0x00FA                                      # Linux's ETH_P_MCTP
 OUTGOING = 4                                                # Linux's PACKET_OUTGOING, in a cooked header
 LARGEST_PACKET = 262144                                     # a longer packet is a damaged length
@@ -33,7 +34,7 @@ OTHER_FILES = ((b"\x1f\x8b", "compressed with gzip: unpack it first"),
                (b"\x34\xcd\xb2\xa1", "a pcap file of a modified form: save it as pcapng with Wireshark first"),
                (b"snoop", "a snoop file: save it as pcapng with Wireshark first"))
 LINK_NAMES = {0: "BSD loopback", 1: "Ethernet", 101: "raw IP", 189: "USB of Linux", 199: "IPMB", 209: "I2C of Linux",
-              220: "USB of Linux", 228: "raw IPv4", 249: "USBPcap", **{number: "user-defined" for number in range(147, 163)}}
+              220: "USB of Linux", 228: "raw IPv4", 249: "USBPcap", 291: "netANALYZER NG", **{number: "user-defined" for number in range(147, 163)}}
 
 # A packet as the file has it: its number from 1, where it begins, the link type, its bytes, how many there were on the wire, the
 # direction that the file marks (INBOUND, OUTBOUND or None), and whether the file is one of ours.
@@ -74,13 +75,9 @@ class Source:
 def link_words(link):
     """Why packets of this link type are refused, and what to do."""
     name = LINK_NAMES.get(link)
-    return (f"link type {link}{f' ({name})' if name else ''} is not one of MCTP ({MCTP_LINK}, or Linux cooked {COOKED_LINK} and "
-            f"{COOKED2_LINK}): capture on the kernel's MCTP interface (tcpdump -i mctpi2c0 -w FILE), or bring the MCTP packets "
-            "into lines of hex and use from-hex")
-
-
-def is_read(link):
-    return link in (MCTP_LINK, COOKED_LINK, COOKED2_LINK)
+    return (f"link type {link}{f' ({name})' if name else ''} is not Linux cooked ({COOKED_LINK} or {COOKED2_LINK}): capture on the kernel's "
+            "MCTP interface (tcpdump -i mctpi2c0 -w FILE), or bring the MCTP packets into lines of hex and use from-hex; if the file's "
+            f"packets are MCTP packets with nothing in front, say so with --link {link}")
 
 
 def uncooked(link, data):
@@ -96,10 +93,10 @@ def uncooked(link, data):
 
 # Classic pcap
 
-def classic_frames(source, order):
+def classic_frames(source, order, links):
     _, _, _, _, _, link = struct.unpack(order + "HHiIII", source.take(20, "the file's header"))
     link &= 0xFFFF                                          # the upper half tells of check bytes of other links
-    if not is_read(link):
+    if link not in links:
         raise Failure(link_words(link))
     for number in itertools.count(1):
         at = source.offset
@@ -197,7 +194,7 @@ def ng_packet(block, section, number):
     return Frame(number, block.offset, section.links[interface][0], data, length, mark, section.ours)
 
 
-def ng_frames(source, teller):
+def ng_frames(source, links, teller):
     """The packets of all sections; those of interfaces with another link type are left out, and told."""
     section, number, found, refused = None, 0, False, collections.Counter()
     for block in blocks(source):
@@ -205,7 +202,7 @@ def ng_frames(source, teller):
             section = Section(block)
         elif block.kind == INTERFACE:
             section.add(block)
-            found = found or is_read(section.links[-1][0])
+            found = found or section.links[-1][0] in links
         elif block.kind in (ENHANCED, OLD_PACKET, SIMPLE):
             number += 1
             try:
@@ -213,7 +210,7 @@ def ng_frames(source, teller):
             except BadBlock as bad:
                 teller.fault(f"{bad}: left out")
                 continue
-            if is_read(frame.link):
+            if frame.link in links:
                 yield frame
             else:
                 refused[frame.link] += 1
@@ -225,8 +222,8 @@ def ng_frames(source, teller):
 
 # Both
 
-def frames(stream, teller):
-    """The packets of a capture file."""
+def frames(stream, links, teller):
+    """The packets of a capture file that have one of these link types."""
     source = Source(stream)
     magic = stream.read(4)
     source.offset = len(magic)
@@ -237,24 +234,24 @@ def frames(stream, teller):
         raise Failure(f"no pcap or pcapng file: it begins with {magic.hex(' ') or 'nothing'} (for lines of hex use from-hex)")
     kind, order = MAGICS[magic]
     try:
-        yield from ng_frames(source, teller) if kind == "pcapng" else classic_frames(source, order)
+        yield from ng_frames(source, links, teller) if kind == "pcapng" else classic_frames(source, order, links)
     except Damage as damage:
         teller.fault(f"{damage}; nothing behind it is read")
 
 
 class Reader:
-    """The MCTP packets of a capture file; afterwards `counts` has what was found."""
+    """The MCTP packets of a capture file; afterwards `counts` has what was found. Packets of link type `bare` are MCTP packets as they are."""
 
-    def __init__(self, stream, teller, side=None):
-        self.stream, self.teller, self.side = stream, teller, side
+    def __init__(self, stream, teller, side=None, bare=None):
+        self.stream, self.teller, self.side, self.bare = stream, teller, side, bare
         self.counts = collections.Counter()
 
     def packets(self):
-        for frame in frames(self.stream, self.teller):
+        for frame in frames(self.stream, (COOKED_LINK, COOKED2_LINK, self.bare), self.teller):
             self.counts["packets"] += 1
             place = f"packet {frame.number}"
             data, mark = frame.data, frame.mark
-            if frame.link != MCTP_LINK:
+            if frame.link != self.bare:
                 found = uncooked(frame.link, data)
                 if found is None:
                     self.teller.fault(f"{place}, offset {frame.offset}: its Linux header is cut: left out")
