@@ -123,6 +123,8 @@ def from_pcap(given, runner, teller):
 
 
 def to_pcap(given, runner, teller):
+    if given.link == pcap.COOKED2_LINK:
+        raise Failure(f"packets under link type {given.link} need a header that is not written: leave --link out")
     form = (write.Pcap if given.classic else write.Pcapng)(given.link)
     with on_disk(given.file) as path:
         records = begun(run.with_lines(path, runner))
@@ -168,37 +170,44 @@ def number_up_to(text, greatest):
     return number
 
 
+def shared(*wanted):
+    """The options that several commands have."""
+    parser = argparse.ArgumentParser(add_help=False)
+    parser.add_argument("--eid", type=eid, default=OWN_EID, metavar="N", help="the board's EID in the capture (8 if not given)")
+    parser.add_argument("--readdress", action="store_true", help="write packets for the board's EID to EID 8, the log program's")
+    parser.add_argument("--all", action="store_true", help="take packets to other EIDs too (the endpoint answers 13)")
+    parser.add_argument("--seen-from", choices=SIDES, help="from which side in and out are meant in the capture's marks")
+    if "link" in wanted:
+        parser.add_argument("--link", type=link, metavar="N", help="packets of link type N are MCTP packets with nothing in front")
+    if "log" in wanted:
+        parser.add_argument("-o", dest="output", metavar="LOG", help="the log; standard output if not given")
+        parser.add_argument("--answer", action="store_true", help="take and complete each command with its captured response")
+    return parser
+
+
+# Each command: what it does, its input, the function, the options that it shares.
+COMMANDS = {
+    "from-hex": ("makes a log from lines of hex", "FILE", from_hex, shared("log")),
+    "from-pcap": ("makes a log from a pcap or pcapng file", "FILE", from_pcap, shared("log", "link")),
+    "check": ("compares what a board sent with what the endpoint sends", "CAPTURE", check_capture, shared("link")),
+    "to-pcap": ("makes a capture from a log and its answers", "LOG", to_pcap, None),
+}
+
+
 def arguments():
     parser = argparse.ArgumentParser(prog="capture.py", epilog="docs/CAPTURES.md has examples.",
                                      description="Makes logs from captures of a board, and captures from logs.")
-    commands = parser.add_subparsers(required=True, metavar="COMMAND")
-    chosen = argparse.ArgumentParser(add_help=False)
-    chosen.add_argument("--eid", type=eid, default=OWN_EID, metavar="N", help="the board's EID in the capture (8 if not given)")
-    chosen.add_argument("--readdress", action="store_true", help="write packets for the board's EID to EID 8, the log program's")
-    chosen.add_argument("--all", action="store_true", help="take packets to other EIDs too (the endpoint answers 13)")
-    chosen.add_argument("--seen-from", choices=SIDES, help="from which side in and out are meant in the capture's marks")
-    linked = argparse.ArgumentParser(add_help=False)
-    linked.add_argument("--link", type=link, metavar="N", help="packets of link type N are MCTP packets with nothing in front")
-    for name, command, words in (("from-hex", from_hex, "makes a log from lines of hex"),
-                                 ("from-pcap", from_pcap, "makes a log from a pcap or pcapng file")):
-        made = commands.add_parser(name, parents=[chosen] if command is from_hex else [chosen, linked], help=words, description=words.capitalize() + ".")
-        made.add_argument("file", metavar="FILE", help="the capture; - is standard input")
-        made.add_argument("-o", dest="output", metavar="LOG", help="the log; standard output if not given")
-        made.add_argument("--answer", action="store_true", help="take and complete each command with its captured response")
-        made.set_defaults(command=command)
-    words = "compares what a board sent with what the endpoint sends"
-    checked = commands.add_parser("check", parents=[chosen, linked], help=words, description=words.capitalize() + ".")
-    checked.add_argument("file", metavar="CAPTURE", help="lines of hex, pcap or pcapng; - is standard input")
-    checked.set_defaults(command=check_capture)
-    words = "makes a capture from a log and its answers"
-    wrote = commands.add_parser("to-pcap", help=words, description=words.capitalize() + ".")
-    wrote.add_argument("file", metavar="LOG", help="the log; - is standard input")
+    commands, each = parser.add_subparsers(required=True, metavar="COMMAND"), {}
+    for name, (words, source, command, options) in COMMANDS.items():
+        each[name] = commands.add_parser(name, parents=[options] if options else [], help=words, description=words.capitalize() + ".")
+        each[name].add_argument("file", metavar=source, help="- is standard input")
+        each[name].set_defaults(command=command)
+    wrote = each["to-pcap"]
     wrote.add_argument("-o", dest="output", metavar="FILE", help="the capture; standard output if not given")
     wrote.add_argument("--classic", action="store_true", help="classic pcap, without directions and comments, instead of pcapng")
     wrote.add_argument("--link", type=link, default=pcap.COOKED_LINK, metavar="N",
-                       help="the link type: 113 is Linux cooked, by which Wireshark finds MCTP (the default); under another, packets stand "
-                            "as they are")
-    wrote.set_defaults(command=to_pcap)
+                       help="the link type: 113, Linux cooked, by which Wireshark finds MCTP, if not given; packets stand as they are "
+                            "under another")
     return parser
 
 

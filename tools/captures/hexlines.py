@@ -1,7 +1,7 @@
 """Packets from text: lines of hex with a packet each, and dumps with an offset column.
 
-A line is [time] [direction] bytes; time and direction may stand in either order. A dump's rows begin with their offset, and offset 0
-begins a packet. Where a line can be read in two ways it is refused, with the reason; no way is picked silently.
+A line is [time] [direction] bytes; time and direction may stand in either order. A dump's rows begin with their offset, and offset
+0 begins a packet. Where a line can be read in two ways it is refused, with the reason; no way is picked silently.
 """
 import collections
 import itertools

@@ -193,7 +193,7 @@ class Maker:
         return who in self.foreign
 
     def readdressed(self, data, place):
-        """With `readdress`, the board's EID at this byte becomes 8, and 8 the board's, so that no other packet becomes one for it."""
+        """With `readdress`, the board's EID at this byte becomes 8, and 8 the board's: no other packet then becomes one for it."""
         return swapped(data, place, self.options.eid, OWN_EID) if self.options.readdress else data
 
     # Which records
@@ -231,8 +231,8 @@ class Maker:
         size = counted(len(response.message), "byte")
         if not response.whole:
             self.teller.example("responses that are not whole",
-                                f"{packet.place}: the response that begins here is not whole in the capture; it is completed with the "
-                                f"{size} that are there")
+                                f"{packet.place}: the response that begins here is not whole in the capture; it is completed with "
+                                f"the {size} that are there")
         elif not is_sealed(bytes(response.message)):
             self.teller.example("responses with a wrong integrity check",
                                 f"{packet.place}: the integrity check of the response that begins here is wrong in the capture")
@@ -252,8 +252,8 @@ class Maker:
                 return slot
         if not {"Process answered", "Transmit"} & set(held.values()):
             self.teller.example("responses without a waiting command",
-                                f"{packet.place}: a response to EID {response.who[0]} under tag {response.who[1]}, who has no command "
-                                "waiting in the endpoint")
+                                f"{packet.place}: a response to EID {response.who[0]} under tag {response.who[1]}, who has no "
+                                "command waiting in the endpoint")
         return None
 
     # In words

@@ -1,8 +1,8 @@
 """Packets from capture files: classic pcap and pcapng, both byte orders.
 
-No link type is assigned to MCTP. libpcap takes Linux's "cooked" captures (113 and 276) for an interface whose type it does not know, and
-there MCTP is known by its protocol number. Packets of another link type are taken for MCTP packets as they are, if that type is named.
-A damaged file gives the packets before the damage.
+No link type is assigned to MCTP. libpcap takes Linux's "cooked" captures (113 and 276) for an interface whose type it does not
+know, and there MCTP is known by its protocol number. Packets of another link type are taken for MCTP packets as they are, if that type
+is named. A damaged file gives the packets before the damage.
 """
 import collections
 import itertools
@@ -34,7 +34,8 @@ OTHER_FILES = ((b"\x1f\x8b", "compressed with gzip: unpack it first"),
                (b"\x34\xcd\xb2\xa1", "a pcap file of a modified form: save it as pcapng with Wireshark first"),
                (b"snoop", "a snoop file: save it as pcapng with Wireshark first"))
 LINK_NAMES = {0: "BSD loopback", 1: "Ethernet", 101: "raw IP", 189: "USB of Linux", 199: "IPMB", 209: "I2C of Linux",
-              220: "USB of Linux", 228: "raw IPv4", 249: "USBPcap", 291: "netANALYZER NG", **{number: "user-defined" for number in range(147, 163)}}
+              220: "USB of Linux", 228: "raw IPv4", 249: "USBPcap", 291: "netANALYZER NG",
+              **{number: "for private use" for number in range(147, 163)}}
 
 # A packet as the file has it: its number from 1, where it begins, the link type, its bytes, how many there were on the wire, the
 # direction that the file marks (INBOUND, OUTBOUND or None), and whether the file is one of ours.
@@ -75,9 +76,9 @@ class Source:
 def link_words(link):
     """Why packets of this link type are refused, and what to do."""
     name = LINK_NAMES.get(link)
-    return (f"link type {link}{f' ({name})' if name else ''} is not Linux cooked ({COOKED_LINK} or {COOKED2_LINK}): capture on the kernel's "
-            "MCTP interface (tcpdump -i mctpi2c0 -w FILE), or bring the MCTP packets into lines of hex and use from-hex; if the file's "
-            f"packets are MCTP packets with nothing in front, say so with --link {link}")
+    return (f"link type {link}{f' ({name})' if name else ''} is not Linux cooked ({COOKED_LINK} or {COOKED2_LINK}): capture on the "
+            "kernel's MCTP interface (tcpdump -i mctpi2c0 -w FILE), or bring the MCTP packets into lines of hex and use from-hex; if "
+            f"the file's packets are MCTP packets with nothing in front, say so with --link {link}")
 
 
 def uncooked(link, data):
@@ -240,7 +241,7 @@ def frames(stream, links, teller):
 
 
 class Reader:
-    """The MCTP packets of a capture file; afterwards `counts` has what was found. Packets of link type `bare` are MCTP packets as they are."""
+    """The MCTP packets of a capture file, those of link type `bare` as they are; afterwards `counts` has what was found."""
 
     def __init__(self, stream, teller, side=None, bare=None):
         self.stream, self.teller, self.side, self.bare = stream, teller, side, bare

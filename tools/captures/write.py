@@ -1,7 +1,7 @@
 """A capture of a log and its answers: the packets to the endpoint, and those that polls handed out.
 
-The captures are for Wireshark. Packets stand behind Linux's cooked header (link type 113), by which it finds MCTP; under any other link
-type they stand as they are.
+The captures are for Wireshark. Packets stand behind Linux's cooked header (link type 113), by which it finds MCTP; under any other
+link type they stand as they are.
 """
 import struct
 
