@@ -225,7 +225,6 @@ ran-read h given piece empty r = go (isAsking h) given refl
         ran-as (lost-same asks) (record { input = r .input; written = r .written; whole = false; reached = lost asks (empty asks) (r .reached) })
     go false given asks = ran-as (sym (not-read given piece h asks)) r
 
-
 pub ran-write : (h : Held) (whole : Bool) → Ran h → Ran (flushed whole h)
 ran-write h whole r = go (mustWrite h) whole refl
   where
