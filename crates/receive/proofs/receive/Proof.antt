@@ -12,9 +12,10 @@ use Rattle.mctp.specs.Header.{readHeader, payloadOf}
 use Rattle.mctp.specs.declared.Header.{Header}
 use Rattle.mctp.specs.declared.Read.the-variants.{Packet}
 use Rattle.machine.proofs.Keeps.{received-valid, sizes}
-use Rattle.machine.specs.Receive.{endAssembly, first, received}
+use Rattle.machine.specs.Receive.{endAssembly, first, later, received}
 use Rattle.machine.specs.State.{World, world, withEndpoint}
-use Rattle.machine.specs.Wire.{unit, inward, wrongStores}
+use Rattle.machine.specs.declared.Endpoint.{Endpoint}
+use Rattle.machine.specs.Wire.{unit, store-size, inward, wrongStores}
 use Rattle.slots.proofs.Kept.{kept}
 use Rattle.lent.proofs.Stores.{rest}
 use Rattle.machine.proofs.Receiving.{packet-sized}
@@ -26,44 +27,61 @@ use Rattle.receive.proofs.receive.Tie as tie
 abbrev lent : tie.Start → World
 lent s = world (s .args .endpoint) (s .args .store0 .now) (s .args .store1 .now)
 
-abbrev start : tie.Else1 → tie.Start
-start d = d .before .before .before .before .before
+-- points of the code: the start; behind 40; a packet's header read, from its first packet and from a later one
+abbrev start : tie.After-wrong-stores → tie.Start
+start w = w .before .before .before .before
+abbrev stores-right : tie.After-read → tie.Else1
+stores-right r = r .before .before .before
+abbrev first-read : tie.After-end-assembly → tie.After-read
+first-read e = e .before .before .before .before
+abbrev later-read : tie.Else2 → tie.After-read
+later-read e = e .before .before .before
 
 still : (s : tie.Start) → Stays (received (lent s) (s .args .packet .now))
 still s = received-valid (lent s) (s .args .packet .now) (s .pre)
 
--- behind 40
-passed : (d : tie.Else1) → wrongStores (lent (start d)) ≡ false
+passed : (d : tie.Else1) → wrongStores (lent (start (d .before))) ≡ false
 passed d = rw (← d .before .wrong-stores .ensures) (d .if1 .left)
 
--- of a packet that is read
-sized : (r : tie.After-read) → let n = length (start (r .before .before .before) .args .packet .now) in (5 ≤ n) × (n ≤ 68)
-sized r =
-    let header = r .before .before in
-    let s = start (header .before) in
-    packet-sized (s .args .endpoint .eid) (s .args .packet .now) (sym (header .read-header .ensures .0) ∙ r .read .given .1)
+-- a packet that is read
+module _ (r : tie.After-read) where
+  abbrev given : tie.Start
+  given = start (stores-right r .before)
 
--- SOM 1, of a packet that is read
-by-first : (w : World) (packet : List ℕ) (h : Header) → wrongStores w ≡ false → readHeader (w .endpoint .eid) unit inward packet ≡ Packet h → h .som ≡ true
-    → received w packet ≡ first (withEndpoint w (endAssembly (w .endpoint) (h .source) (h .tag))) h (payloadOf packet)
-unfolding received
-by-first w packet h s r t = rw (s, r, t)
+  is-packet : readHeader (given .args .endpoint .eid) unit inward (given .args .packet .now) ≡ Packet (r .read .given .0 .0)
+  is-packet = sym (r .before .before .read-header .ensures .0) ∙ r .read .given .1
+
+  sized : (5 ≤ length (given .args .packet .now)) × (length (given .args .packet .now) ≤ 68)
+  sized = packet-sized (given .args .endpoint .eid) (given .args .packet .now) is-packet
+
+  stores : (length (given .args .store0 .now) ≡ store-size) × (length (given .args .store1 .now) ≡ store-size)
+  stores = sizes (lent given) (passed (stores-right r))
+
+-- the rows of a packet that is read: its first, and a later one
+module _ (w : World) (packet : List ℕ) (h : Header) (right : wrongStores w ≡ false) (read : readHeader (w .endpoint .eid) unit inward packet ≡ Packet h) where
+  by-first : {e : Endpoint} → h .som ≡ true → e ≡ endAssembly (w .endpoint) (h .source) (h .tag) → first (withEndpoint w e) h (payloadOf packet) ≡ received w packet
+  unfolding received
+  by-first som ended = rw (right, read, som, ended)
+
+  by-later : h .som ≡ false → later w h (payloadOf packet) ≡ received w packet
+  unfolding received
+  by-later som = rw (right, read, som)
 
 returns : tie.Need-returns
 unfolding received
 returns c =
-    let stores = c .before .before in
-    kept Stays (still (stores .before .before .before .before)) (rw (c .ended .ensures, ← stores .wrong-stores .ensures, c .before .if1 .taken))
+    let w = c .before .before in
+    kept Stays (still (start w)) (rw (c .ended .ensures, sym (w .wrong-stores .ensures) ∙ c .before .if1 .taken))
 
 returns-2 : tie.Need-returns-2
 unfolding received
 returns-2 c =
     let told = c .before .before in
     let header = told .before .before in
-    let tests = header .before in
-    kept Stays (still (start tests))
+    let d = header .before in
+    kept Stays (still (start (d .before)))
     (c .refused .ensures _ _
-    ∙ rw (c .before .refusal-of .ensures _ (told .enum-told .given .1), passed tests, sym (header .read-header .ensures .0) ∙ told .enum-told .given .1))
+    ∙ rw (c .before .refusal-of .ensures _ (told .enum-told .given .1), passed d, sym (header .read-header .ensures .0) ∙ told .enum-told .given .1))
 
 sub-payload : tie.Need-sub-payload
 sub-payload c = omega (arith, sized (c .before))
@@ -73,38 +91,28 @@ part-payload-start c = omega (arith, sized (c .before))
 
 first-requires : tie.Need-first-requires
 first-requires c κs =
-    let read = c .before .before .before .before .before .before in
-    let stores = read .before .before .before in
-    let k = sizes (lent (start stores)) (passed stores) in
-    (k .0, k .1, simp (length-take, length-drop) (omega (arith, sized read)), simp (length-take, length-drop) (omega (arith, sized read)))
+    let r = first-read (c .before .before) in
+    let k = stores r in
+    (k .0, k .1, simp (length-take, length-drop) (omega (arith, sized r)), simp (length-take, length-drop) (omega (arith, sized r)))
 
 returns-3 : tie.Need-returns-3
 returns-3 c =
     let call = c .before .before .before .before in
     let ending = call .before .before .before in
-    let read = ending .before .before .before .before in
-    let header = read .before .before in
-    let s = start (header .before) in
-    kept Stays (still s)
-    (call .first .ensures
-    ∙ rw (ending .end-assembly .ensures, rest 4)
-    (sym (by-first (lent s) (s .args .packet .now) (read .read .given .0 .0) (passed (header .before)) (sym (header .read-header .ensures .0) ∙ read .read .given .1) (ending .before .if2 .taken))))
+    let r = first-read ending in
+    let row = by-first (lent (given r)) (given r .args .packet .now) _ (passed (stores-right r)) (is-packet r) in
+    kept Stays (still (given r)) (call .first .ensures ∙ rw (rest 4) (row (ending .before .if2 .taken) (ending .end-assembly .ensures)))
 
 later-requires : tie.Need-later-requires
-later-requires c κs =
-    let stores = c .before .before .before .before .before .before .before .before in
-    let k = sizes (lent (start stores)) (passed stores) in
-    (k .0, k .1, search needs)
+later-requires c κs = let k = stores (later-read (c .before .before)) in (k .0, k .1, search needs)
 
 returns-4 : tie.Need-returns-4
-unfolding received
 returns-4 c =
     let call = c .before .before .before .before in
     let test = call .before .before .before in
-    let read = test .before .before .before in
-    let header = read .before .before in
-    kept Stays (still (start (header .before)))
-    (call .later .ensures ∙ rw (rest 4, passed (header .before), sym (header .read-header .ensures .0) ∙ read .read .given .1, test .if2 .left))
+    let r = later-read test in
+    let row = by-later (lent (given r)) (given r .args .packet .now) _ (passed (stores-right r)) (is-packet r) in
+    kept Stays (still (given r)) (call .later .ensures ∙ rw (rest 4) (row (test .if2 .left)))
 
 pub receive-spec : {M : Type 1} → statement M
 receive-spec =
