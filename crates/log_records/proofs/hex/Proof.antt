@@ -33,14 +33,18 @@ whole : (out₀ out bytes : List ℕ) (at o i : ℕ) → i ≡ length bytes → 
     → out ≡ put out₀ at (hex bytes)
 whole out₀ out bytes at o i all h = sym (put-nothing out o) ∙ rw (all, drop-length bytes) at h
 
+abbrev start : tie.At-loop Inv-loop μ-loop → tie.Start Inv-loop μ-loop
+start at-loop = at-loop .before .before .before
+
 loop-again : tie.Need-loop-again Inv-loop μ-loop
 loop-again c =
     let h = c .before .before in
-    let at-loop = h .before .before .before .before in
-    let a = at-loop .before .before .before .args in (
+    let in-loop = h .before .before .before in
+    let at-loop = in-loop .before in
+    let a = start at-loop .args in (
       search needs,
       search needs,
-      turn (a .out .now) (at-loop .loop .out) _ (a .bytes .now) (a .at) (at-loop .loop .o) (at-loop .loop .i) (h .before .before .before .loop-test .taken)
+      turn (a .out .now) (at-loop .loop .out) _ (a .bytes .now) (a .at) (at-loop .loop .o) (at-loop .loop .i) (in-loop .loop-test .taken)
           (omega arith) (h .hex-byte .ensures) (at-loop .loop .inv .2),
       search needs,
     )
@@ -48,7 +52,7 @@ loop-again c =
 returns : tie.Need-returns Inv-loop μ-loop
 returns c =
     let at-loop = c .before in
-    let a = at-loop .before .before .before .args in
+    let a = start at-loop .args in
     whole (a .out .now) (at-loop .loop .out) (a .bytes .now) (a .at) (at-loop .loop .o) (at-loop .loop .i) (le-antisymm (at-loop .loop .inv .0) (c .loop-test .left)) (at-loop .loop .inv .2)
 
 pub hex-spec : {M : Type 1} → statement M

@@ -30,17 +30,22 @@ written line middle packet room small e =
       rw (e ∙ front, ← n) (sets-eq (10 ∷ []) (put line 0 (49 ∷ 32 ∷ hex packet)) (length (49 ∷ 32 ∷ hex packet)) (omega arith) ∙ last),
     )
 
+-- points of the code: with the packet put in hex, and the start
+abbrev hex-put : tie.After-slice-known2 → tie.After-hex
+hex-put c = c .before .before
+abbrev start : tie.After-hex → tie.Start
+start h = h .before .before .before .before
+
 slice-write-line-3 : tie.Need-slice-write-line-3
-slice-write-line-3 c = omega (arith, simp length-set at (c .before .before .hex .kept .0))
+slice-write-line-3 c = omega (arith, simp length-set at (hex-put c .hex .kept .0))
 
 same-length : tie.Need-same-length
-same-length c = simp length-set (omega (arith, simp length-set at (c .before .before .hex .kept .0)))
+same-length c = simp length-set (omega (arith, simp length-set at (hex-put c .hex .kept .0)))
 
 returns : tie.Need-returns
 returns c =
-    let h = c .before .before in
-    let s = h .before .before .before .before in
-    written (s .args .line .now) _ (s .args .packet .now) (s .pre .0) (s .pre .1) (h .hex .ensures)
+    let s = start (hex-put c) in
+    written (s .args .line .now) _ (s .args .packet .now) (s .pre .0) (s .pre .1) (hex-put c .hex .ensures)
 
 pub packet-line-spec : {M : Type 1} → statement M
 packet-line-spec =

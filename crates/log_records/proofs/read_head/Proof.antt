@@ -1,9 +1,10 @@
 -- `log_records::read_head` meets its contract: each way out has the tests that lead to its row of `headed`.
 -- Assumes nothing.
-use Prim.Native.Nat.{ℕ, _+_, _≤_, _<_}
+use Prim.Native.Nat.{ℕ, _+_, _*_, _≤_, _<_}
 use mathlib.Core.Path.{_≡_, sym, _∙_}
 use mathlib.Core.Bool.{true, false}
 use mathlib.Core.List.{List}
+use native.Mathlib.Omega.{arith}
 use lib.ListN.{length}
 use borrow.Author.Tests.{lt-ltb, le-ltb, not-true, not-false}
 use borrow.Author.Needs.{needs}
@@ -32,32 +33,32 @@ returns : tie.Need-returns
 unfolding headed
 returns c = rw (lt-ltb _ _ (c .if1 .taken))
 
+-- points of the code, from the tag and length that are tested: the low byte of the length; behind the first test
+abbrev low-read : tie.After-is-record → tie.After-wide
+low-read r = r .before .before .before
+abbrev three : tie.After-is-record → tie.Else1
+three r = low-read r .before .before .before
+
+abbrev start : tie.After-is-record → tie.Start
+start r = three r .before .before
+
+read : (r : tie.After-is-record) → low-read r .wide .result + r .before .wide2 .result * 256 ≡ lengthOf (start r .args .bytes .now)
+read r = omega (arith, low-read r .wide .ensures .0)
+
 returns-2 : tie.Need-returns-2
 returns-2 c =
     let r = c .before in
-    let w = r .before in
-    let v = w .before .before in
-    let e = v .before .before .before in
-    bad (e .before .before .args .bytes .now) _ (rw (v .wide .ensures .0, w .wide2 .ensures .0)) (e .if1 .left)
-    (sym (r .is-record .ensures) ∙ not-true _ (c .if2 .taken))
+    bad (start r .args .bytes .now) _ (read r) (three r .if1 .left) (sym (r .is-record .ensures) ∙ not-true _ (c .if2 .taken))
 
 returns-3 : tie.Need-returns-3
 returns-3 c =
     let r = c .before .before in
-    let w = r .before in
-    let v = w .before .before in
-    let e = v .before .before .before in
-    cut (e .before .before .args .bytes .now) _ (rw (v .wide .ensures .0, w .wide2 .ensures .0)) (e .if1 .left)
-    (sym (r .is-record .ensures) ∙ not-false _ (c .before .if2 .left)) (c .if3 .taken)
+    cut (start r .args .bytes .now) _ (read r) (three r .if1 .left) (sym (r .is-record .ensures) ∙ not-false _ (c .before .if2 .left)) (c .if3 .taken)
 
 returns-4 : tie.Need-returns-4
 returns-4 c =
     let r = c .before .before in
-    let w = r .before in
-    let v = w .before .before in
-    let e = v .before .before .before in
-    whole (e .before .before .args .bytes .now) _ (rw (v .wide .ensures .0, w .wide2 .ensures .0)) (e .if1 .left)
-    (sym (r .is-record .ensures) ∙ not-false _ (c .before .if2 .left)) (c .if3 .left)
+    whole (start r .args .bytes .now) _ (read r) (three r .if1 .left) (sym (r .is-record .ensures) ∙ not-false _ (c .before .if2 .left)) (c .if3 .left)
 
 pub read-head-spec : {M : Type 1} → statement M
 read-head-spec =
