@@ -14,8 +14,6 @@ use Rattle.mctp.specs.declared.Read.{Read}
 use Rattle.mctp.proofs.Laws.{header-numbers}
 use Rattle.mctp.proofs.read_header.Statement.{statement}
 use Rattle.mctp.proofs.read_header.Tie as tie
-use Rattle.mctp.proofs.read_header.Reads as reads
-use Rattle.mctp.proofs.read_header.Lts as lts
 
 -- the code's test on two bools
 same-beq : (a b : Bool) → same a b ≡ Bool·beq a b
@@ -24,58 +22,60 @@ same-beq true false = refl
 same-beq false true = refl
 same-beq false false = refl
 
--- past the second test: not too long
-fits : (c : lts.Else2 reads.Pre reads.Post) → length (c .before .before .args .packet .now) ≤ c .before .before .args .unit + 4
-fits c = omega arith
+-- points of the code: behind 11; behind 12; behind 13
+abbrev start : tie.Else2 → tie.Start
+start d = d .before .before
+abbrev sized : tie.Else3 → tie.Else2
+sized v = v .before .before
+abbrev versioned : tie.Else4 → tie.Else3
+versioned o = o .before .before
+
+fits : (d : tie.Else2) → length (start d .args .packet .now) ≤ start d .args .unit + 4
+fits d = omega arith
 
 -- the numbers follow from the row
-said : (eid unit : ℕ) (to : Bool) (packet : List ℕ) {r : Read} → r ≡ readHeader eid unit to packet
-    → (r ≡ readHeader eid unit to packet) × (readSays r ≡ headerNumbers eid unit to packet)
-said eid unit to packet e = (e, rw e (header-numbers eid unit to packet))
+said : (s : tie.Start) {r : Read} → let a = s .args in r ≡ readHeader (a .eid) (a .unit) (a .to) (a .packet .now)
+    → (r ≡ readHeader (a .eid) (a .unit) (a .to) (a .packet .now)) × (readSays r ≡ headerNumbers (a .eid) (a .unit) (a .to) (a .packet .now))
+said s e = (e, rw e (header-numbers (s .args .eid) (s .args .unit) (s .args .to) (s .args .packet .now)))
 
 returns : tie.Need-returns
 unfolding readHeader
-returns c = let a = c .before .args in said (a .eid) (a .unit) (a .to) (a .packet .now) (search lt-ltb)
+returns c = said (c .before) (search lt-ltb)
 
 returns-2 : tie.Need-returns-2
 unfolding readHeader
 returns-2 c =
-    let a = c .before .before .args in
-    let long : a .unit + 4 < length (a .packet .now) = omega arith in
-    said (a .eid) (a .unit) (a .to) (a .packet .now) (search (lt-ltb, le-ltb))
+    let s = c .before .before in
+    let long : s .args .unit + 4 < length (s .args .packet .now) = omega arith in
+    said s (search (lt-ltb, le-ltb))
 
 returns-3 : tie.Need-returns-3
 unfolding readHeader
 returns-3 c =
-    let p = c .before .before in
-    let a = p .before .before .args in
-    let other : byteAt (a .packet .now) 0 % 16 ≡ 1 → ⊥ = omega arith in
-    said (a .eid) (a .unit) (a .to) (a .packet .now) (search (le-ltb, fits p, ne-eqb))
+    let d = c .before .before in
+    let other : byteAt (start d .args .packet .now) 0 % 16 ≡ 1 → ⊥ = omega arith in
+    said (start d) (search (le-ltb, fits d, ne-eqb))
 
 returns-4 : tie.Need-returns-4
 unfolding readHeader
-returns-4 c =
-    let p = c .before .before .before .before in
-    let a = p .before .before .args in
-    said (a .eid) (a .unit) (a .to) (a .packet .now) (search (le-ltb, fits p, eq-eqb, ne-eqb))
+returns-4 c = let d = sized (c .before .before) in said (start d) (search (le-ltb, fits d, eq-eqb, ne-eqb))
 
 returns-5 : tie.Need-returns-5
 unfolding readHeader
 returns-5 c =
-    let p = c .before .before .before .before .before .before in
-    let a = p .before .before .args in
+    let d = sized (versioned (c .before .before)) in
+    let a = start d .args in
     let other : not (same (isSet (byteAt (a .packet .now) 3) 3) (a .to)) ≡ true = rw same-beq (c .if5 .taken) in
-    said (a .eid) (a .unit) (a .to) (a .packet .now) (search (le-ltb, fits p, eq-eqb, other))
+    said (start d) (search (le-ltb, fits d, eq-eqb, other))
 
 returns-6 : tie.Need-returns-6
 unfolding readHeader
 returns-6 c =
-    let r = c .before .before .before in
-    let q = r .before .before in
-    let p = q .before .before in
-    let a = p .before .before .args in
-    said (a .eid) (a .unit) (a .to) (a .packet .now)
-    (rw (le-ltb _ _ (p .before .if1 .left), le-ltb _ _ (fits p), eq-eqb _ _ (q .if3 .left), eq-eqb _ _ (r .if4 .left), same-beq, c .before .if5 .left))
+    let o = c .before .before .before in
+    let v = versioned o in
+    let d = sized v in
+    said (start d)
+    (rw (le-ltb _ _ (d .before .if1 .left), le-ltb _ _ (fits d), eq-eqb _ _ (v .if3 .left), eq-eqb _ _ (o .if4 .left), same-beq, c .before .if5 .left))
 
 pub read-header-spec : {M : Type 1} → statement M
 read-header-spec =

@@ -44,13 +44,13 @@ module _ (unit k n : ℕ) (route : Route) (message out front exit : List ℕ) (e
 
 returns : tie.Need-returns
 returns c =
-    let p = c .before .before in
-    let w = p .before .before .before .before .before in
-    let m = w .before .before in
-    let s = m .before .before .before in
+    let part-put = c .before .before in
+    let header-written = part-put .before .before .before .before .before in
+    let size-known = header-written .before .before in
+    let s = size-known .before .before .before in
     let a = s .args in
-    written (a .unit) (a .k) (m .smaller .result) (a .route) (a .message .now) (a .out .now) _ _ _ (m .smaller .ensures)
-    (last-left (a .unit) (length (a .message .now)) (a .k) (s .pre .0) (s .pre .1)) (w .write-header .ensures) (p .put .ensures)
+    written (a .unit) (a .k) (size-known .smaller .result) (a .route) (a .message .now) (a .out .now) _ _ _ (size-known .smaller .ensures)
+    (last-left (a .unit) (length (a .message .now)) (a .k) (s .pre .0) (s .pre .1)) (header-written .write-header .ensures) (part-put .put .ensures)
 
 pub write-packet-spec : {M : Type 1} → statement M
 write-packet-spec =
