@@ -32,15 +32,19 @@ same-beq false false = refl
 full-unit : (unit : ℕ) (h : Header) (n : ℕ) → isCut unit h n ≡ false → h .eom ≡ false → n ≡ unit
 full-unit unit h n c e = eqb-true n unit (not-false (eqb n unit) (rw e at c))
 
--- points of the code: at the start; behind 16; with the message header read; behind the second 15; at a control message
+-- points of the code: the start; behind 16; with the message header read; behind the second 15; a control message
 abbrev start : tie.Else2 → tie.Start
 start d = d .before .before .before .before .before
+
 abbrev uncut : tie.After-read-message-header → tie.Else2
 uncut h = h .before .before
+
 abbrev header-read : tie.Else5 → tie.After-read-message-header
 header-read r = r .before .before
+
 abbrev awaited : tie.Else6 → tie.Else5
 awaited n = n .before .before
+
 abbrev is-control : tie.Else8 → tie.Else6
 is-control e = e .before .before .before
 
@@ -67,7 +71,8 @@ read-message-header-requires : tie.Need-read-message-header-requires
 read-message-header-requires c κs =
     let a = start (c .before) .args in
     let n = length (a .message .now) in
-    ⊎-elim (λ w. omega (arith, ltb-false n 8 (w .1 .left))) (λ w. omega (arith, full-unit (a .unit) (a .header) n (whole (c .before)) (w .left))) (c .if3 .came)
+    ⊎-elim (λ w. omega (arith, ltb-false n 8 (w .1 .left)))
+    (λ w. omega (arith, full-unit (a .unit) (a .header) n (whole (c .before)) (w .left))) (c .if3 .came)
 
 long : (h : tie.After-read-message-header) → let a = start (uncut h) .args in (a .header .eom && ltb (length (a .message .now)) 8) ≡ false
 long h = ⊎-elim (λ w. cc) (λ w. cc) (h .before .if3 .came)
