@@ -30,10 +30,13 @@ lent s = world (s .args .endpoint) (s .args .store0 .now) (s .args .store1 .now)
 -- points of the code: the start; behind 40; a packet's header read, from its first packet and from a later one
 abbrev start : tie.After-wrong-stores → tie.Start
 start w = w .before .before .before .before
+
 abbrev stores-right : tie.After-read → tie.Else1
 stores-right r = r .before .before .before
+
 abbrev first-read : tie.After-end-assembly → tie.After-read
 first-read e = e .before .before .before .before
+
 abbrev later-read : tie.Else2 → tie.After-read
 later-read e = e .before .before .before
 
@@ -58,14 +61,15 @@ module _ (r : tie.After-read) where
   stores = sizes (lent given) (passed (stores-right r))
 
 -- the rows of a packet that is read: its first, and a later one
-module _ (w : World) (packet : List ℕ) (h : Header) (right : wrongStores w ≡ false) (read : readHeader (w .endpoint .eid) unit inward packet ≡ Packet h) where
-  by-first : {e : Endpoint} → h .som ≡ true → e ≡ endAssembly (w .endpoint) (h .source) (h .tag) → first (withEndpoint w e) h (payloadOf packet) ≡ received w packet
+module _ (w : World) (packet : List ℕ) (h : Header) (s : wrongStores w ≡ false) (r : readHeader (w .endpoint .eid) unit inward packet ≡ Packet h) where
+  by-first : {e : Endpoint} → h .som ≡ true → e ≡ endAssembly (w .endpoint) (h .source) (h .tag)
+      → first (withEndpoint w e) h (payloadOf packet) ≡ received w packet
   unfolding received
-  by-first som ended = rw (right, read, som, ended)
+  by-first som ended = rw (s, r, som, ended)
 
   by-later : h .som ≡ false → later w h (payloadOf packet) ≡ received w packet
   unfolding received
-  by-later som = rw (right, read, som)
+  by-later som = rw (s, r, som)
 
 returns : tie.Need-returns
 unfolding received
