@@ -33,6 +33,7 @@ written line middle packet room small e =
 -- points of the code: with the packet put in hex, and the start
 abbrev hex-put : tie.After-slice-known2 → tie.After-hex
 hex-put c = c .before .before
+
 abbrev start : tie.After-hex → tie.Start
 start h = h .before .before .before .before
 

@@ -36,6 +36,7 @@ returns c = rw (lt-ltb _ _ (c .if1 .taken))
 -- points of the code, from the tag and length that are tested: the low byte of the length; behind the first test
 abbrev low-read : tie.After-is-record → tie.After-wide
 low-read r = r .before .before .before
+
 abbrev three : tie.After-is-record → tie.Else1
 three r = low-read r .before .before .before
 
