@@ -28,25 +28,25 @@ faulted e h csi m (Failure status) k = refl
 returns : tie.Need-returns
 unfolding controlled
 returns c =
-    let m = c .before .before in
-    let k = m .before in
-    let a = k .before .before .before .args in
-    rw (c .replied .ensures, c .before .fault-body .ensures, ← k .control-fault .ensures)
-    (sym (faulted (a .endpoint) (a .header) (a .message-header .csi) (a .message .now) (k .control-fault .result) (m .match .keys2)))
+    let faulty = c .before .before in
+    let tested = faulty .before in
+    let a = tested .before .before .before .args in
+    rw (c .replied .ensures, c .before .fault-body .ensures, ← tested .control-fault .ensures)
+    (sym (faulted (a .endpoint) (a .header) (a .message-header .csi) (a .message .now) (tested .control-fault .result) (faulty .match .keys2)))
 
 returns-2 : tie.Need-returns-2
 unfolding controlled
 returns-2 c =
-    let b = c .before .before in
-    let p = b .before .before in
-    let t = p .before .before in
-    let k = t .before .before in
+    let body-made = c .before .before in
+    let acted = body-made .before .before in
+    let faultless = acted .before .before in
+    let tested = faultless .before .before in
     rw (
       c .replied2 .ensures,
-      b .success-body .ensures,
-      p .primitive .ensures,
-      ← k .control-fault .ensures,
-      t .enum-told .given .1,
+      body-made .success-body .ensures,
+      acted .primitive .ensures,
+      ← tested .control-fault .ensures,
+      faultless .enum-told .given .1,
       div-one,
     )
 
