@@ -2,13 +2,14 @@
 -- Assumes nothing.
 use Prim.Native.Nat.{ℕ}
 use mathlib.Core.Path.{_≡_, sym, ap, _∙_}
+use mathlib.Core.Bool.{false}
 use mathlib.Core.List.{List}
 use native.Mathlib.Omega.{arith}
 use lib.ListN.{length}
 use borrow.Author.Tests.{lt-ltb, le-ltb}
 use borrow.Author.Needs.{needs}
 use Rattle.machine.specs.State.{World, world}
-use Rattle.machine.specs.Wire.{packet-room}
+use Rattle.machine.specs.Wire.{packet-room, wrongStores}
 use Rattle.machine.specs.Poll.{Polled, pollSays, polled}
 use Rattle.machine.specs.Numbers.{pollNumber}
 use Rattle.machine.specs.Valid.{Valid}
@@ -18,52 +19,54 @@ use Rattle.slots.proofs.Kept.{kept}
 use Rattle.poll.proofs.poll.Statement.{statement}
 use Rattle.poll.proofs.poll.Tie as tie
 
+-- points of the code: behind 36, behind 40, and the start
+abbrev stores-right : tie.After-ready → tie.Else1
+stores-right r = r .before .before
+
+abbrev start : tie.Else1 → tie.Start
+start e = e .before .before .before .before .before
+
+-- the endpoint and both stores, as they are lent
+abbrev lent : tie.Start → World
+lent s = world (s .args .endpoint) (s .args .store0 .now) (s .args .store1 .now)
+
 -- the number and the invariant follow from the row
-done : (w : World) (buffer : List ℕ) {p : Polled} → Valid (w .endpoint) → p ≡ polled w buffer
-    → (p ≡ polled w buffer) × ((pollSays (p .answer) .0 ≡ pollNumber w buffer) × Valid (p .endpoint))
-done w buffer v h =
-    kept (λ (p : Polled). (pollSays (p .answer) .0 ≡ pollNumber w buffer) × Valid (p .endpoint))
-    (ap (λ (x : ℕ × List ℕ). x .0) (poll-numbers w buffer v), polled-valid w buffer v) h
+done : (s : tie.Start) {p : Polled} → let buffer = s .args .buffer .now in
+    p ≡ polled (lent s) buffer → (p ≡ polled (lent s) buffer) × ((pollSays (p .answer) .0 ≡ pollNumber (lent s) buffer) × Valid (p .endpoint))
+done s h =
+    let buffer = s .args .buffer .now in
+    kept (λ (p : Polled). (pollSays (p .answer) .0 ≡ pollNumber (lent s) buffer) × Valid (p .endpoint))
+    (ap (λ (x : ℕ × List ℕ). x .0) (poll-numbers (lent s) buffer (s .pre)), polled-valid (lent s) buffer (s .pre)) h
+
+passed : (e : tie.Else1) → wrongStores (lent (start e)) ≡ false
+passed e = sym (e .before .wrong-stores .ensures) ∙ e .if1 .left
 
 returns : tie.Need-returns
 unfolding polled
 returns c =
-    let k = c .before in
-    let s = k .before .before .before .before in
-    let a = s .args in
-    done (world (a .endpoint) (a .store0 .now) (a .store1 .now)) (a .buffer .now) (s .pre) (rw (← k .wrong-stores .ensures, c .if1 .taken))
+    let stores = c .before in
+    done (stores .before .before .before .before) (rw (← stores .wrong-stores .ensures, c .if1 .taken))
 
 returns-2 : tie.Need-returns-2
 unfolding polled
 returns-2 c =
     let e = c .before in
-    let k = e .before in
-    let s = k .before .before .before .before in
-    let a = s .args in
-    done (world (a .endpoint) (a .store0 .now) (a .store1 .now)) (a .buffer .now) (s .pre)
-    (rw (← k .wrong-stores .ensures, e .if1 .left, lt-ltb (length (a .buffer .now)) packet-room (omega arith)))
+    done (start e) (rw (passed e, lt-ltb (length (start e .args .buffer .now)) packet-room (omega arith)))
 
 polled-by-requires : tie.Need-polled-by-requires
 polled-by-requires c κs =
-    let r = c .before in
-    let e = r .before .before in
-    let k = e .before in
-    let s = k .before .before .before .before in
-    let a = s .args in
-    let size = sizes (world (a .endpoint) (a .store0 .now) (a .store1 .now)) (sym (k .wrong-stores .ensures) ∙ e .if1 .left) in
-    ((s .pre, r .ready .ensures), (size .0, size .1, omega arith))
+    let e = stores-right (c .before) in
+    let size = sizes (lent (start e)) (passed e) in
+    ((start e .pre, c .before .ready .ensures), (size .0, size .1, omega arith))
 
 returns-3 : tie.Need-returns-3
 unfolding polled
 returns-3 c =
-    let f = c .before .before in
-    let r = f .before .before in
-    let e = r .before .before in
-    let k = e .before in
-    let s = k .before .before .before .before in
-    let a = s .args in
-    done (world (a .endpoint) (a .store0 .now) (a .store1 .now)) (a .buffer .now) (s .pre)
-    (rw (← k .wrong-stores .ensures, e .if1 .left, le-ltb (length (a .buffer .now)) packet-room (omega arith), ← r .ready .ensures) (f .polled-by .ensures))
+    let call = c .before .before in
+    let r = call .before .before in
+    let e = stores-right r in
+    done (start e)
+    (rw (passed e, le-ltb (length (start e .args .buffer .now)) packet-room (omega arith), ← r .ready .ensures) (call .polled-by .ensures))
 
 pub poll-spec : {M : Type 1} → statement M
 poll-spec =

@@ -26,37 +26,41 @@ bounds e v {i} {r} h =
     let f = rw (k .sends) at (facts-at i (k .slot-is) v) in
     (omega (arith, k .slot-is), f .0, f .1 .most)
 
+-- from a command packet that is ready
+abbrev start : tie.After-next → tie.Start
+start n = n .before .before .before .before .before
+
 returns : tie.Need-returns
 returns c =
-    let f = c .before .before in
-    let t = f .before .before in
-    rw (t .before .enum-told .given .1) (row _ (t .if1 .taken) (f .sent-control .ensures))
+    let sent = c .before .before in
+    let t = sent .before .before in
+    rw (t .before .enum-told .given .1) (row _ (t .if1 .taken) (sent .sent-control .ensures))
 
 returns-2 : tie.Need-returns-2
 returns-2 c = rw (c .before .enum-told .given .1) (later _ (c .if1 .left) refl)
 
 returns-3 : tie.Need-returns-3
 returns-3 c =
-    let f = c .before .before in
-    let t = f .before .before in
-    let o = t .before .before in
-    rw (o .before .before .next .given .1) (row _ (both (o .if2 .taken) (t .if3 .taken)) (f .sent-control2 .ensures))
+    let sent = c .before .before in
+    let second = sent .before .before in
+    let first = second .before .before in
+    rw (first .before .before .next .given .1) (row _ (both (first .if2 .taken) (second .if3 .taken)) (sent .sent-control2 .ensures))
 
 sent-command-requires : tie.Need-sent-command-requires
 sent-command-requires c κs =
     let n = c .before .before .before in
-    let s = n .before .before .before .before .before in
+    let s = start n in
     (bounds _ (s .pre .0 .0) (sym (s .pre .0 .1) ∙ n .next .given .1), s .pre .1)
 
 returns-4 : tie.Need-returns-4
 returns-4 c =
-    let f = c .before .before in
-    let j = f .before .before in
-    rw (j .before .before .next .given .1)
+    let sent = c .before .before in
+    let joined = sent .before .before in
+    rw (joined .before .before .next .given .1)
     (⊎-elim
-    (λ last. later _ (both (last .0 .taken) (last .2 .left)) (f .sent-command .ensures))
-    (λ none. later _ (both (none .left) refl) (f .sent-command .ensures))
-    (j .if2 .came))
+    (λ last. later _ (both (last .0 .taken) (last .2 .left)) (sent .sent-command .ensures))
+    (λ none. later _ (both (none .left) refl) (sent .sent-command .ensures))
+    (joined .if2 .came))
 
 pub polled-by-spec : {M : Type 1} → statement M
 polled-by-spec =
