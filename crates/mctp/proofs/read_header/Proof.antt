@@ -1,9 +1,8 @@
 -- `mctp::read_header` meets its contract: each way out has the tests that lead to its row of `readHeader`.
 -- Assumes nothing.
-use Prim.Native.Nat.{ℕ, _+_, _%_, _≤_, _<_}
+use Prim.Native.Nat.{_+_, _%_, _≤_, _<_}
 use mathlib.Core.Path.{_≡_, refl}
 use mathlib.Core.Bool.{Bool, true, false, not, Bool·beq}
-use mathlib.Core.List.{List}
 use native.Mathlib.Omega.{arith}
 use lib.ListN.{length}
 use borrow.Author.Needs.{needs}
@@ -25,8 +24,10 @@ same-beq false false = refl
 -- points of the code: behind 11; behind 12; behind 13
 abbrev start : tie.Else2 → tie.Start
 start d = d .before .before
+
 abbrev sized : tie.Else3 → tie.Else2
 sized v = v .before .before
+
 abbrev versioned : tie.Else4 → tie.Else3
 versioned o = o .before .before
 
