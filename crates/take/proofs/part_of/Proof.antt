@@ -20,14 +20,14 @@ returns c =
 
 slice-aggregate-result-3 : tie.Need-slice-aggregate-result-3
 slice-aggregate-result-3 c =
-    let k = c .before .before .before .before in
-    let fits = rw (k .phase .given .1) at (k .before .before .pre .1) in
+    let at-command = c .before .before .before .before in
+    let fits = rw (at-command .phase .given .1) at (at-command .before .before .pre .1) in
     simp length-take (omega (arith, fits .1))
 
 returns-3 : tie.Need-returns-3
 returns-3 c =
-    let k = c .before .before .before in
-    rw (k .before .phase .given .1, c .before .enum-told .given .1)
+    let at-command = c .before .before .before .before in
+    rw (at-command .phase .given .1, c .before .enum-told .given .1)
 
 pub part-of-spec : {M : Type 1} → statement M
 part-of-spec =

@@ -7,7 +7,7 @@ use mathlib.Core.Logic.{⊎-elim}
 use native.Mathlib.Omega.{arith}
 use borrow.Author.Tests.{leb-true, leb-false, lt-ltb, le-ltb}
 use borrow.Author.Needs.{needs}
-use Rattle.machine.specs.State.{world}
+use Rattle.machine.specs.State.{World, world}
 use Rattle.machine.specs.Wire.{wrongStores}
 use Rattle.machine.specs.Finish.{part}
 use Rattle.machine.proofs.Slots.{facts-at}
@@ -23,25 +23,29 @@ returns c =
     (λ above. rw (← w .wrong-stores .ensures, above .0 .left, le-ltb _ _ (leb-true _ _ (above .1 .taken))))
     (c .before .if1 .came)
 
+-- from stores of the right length
+abbrev start : tie.Else1 → tie.Start
+start d = d .before .before .before .before
+
+-- the endpoint and both stores, as they are lent
+abbrev lent : tie.Start → World
+lent s = world (s .args .t1) (s .args .store0 .now) (s .args .store1 .now)
+
+passed : (d : tie.Else1) → wrongStores (lent (start d)) ≡ false
+passed d = sym (d .before .wrong-stores .ensures) ∙ d .if1 .left
+
 part-of-requires : tie.Need-part-of-requires
 part-of-requires c κs =
-    let d = c .before .before in
-    let k = d .before .before in
-    let s = k .before .before .before in
-    let a = s .args in
-    let w = world (a .t1) (a .store0 .now) (a .store1 .now) in
-    let right : wrongStores w ≡ false = sym (k .wrong-stores .ensures) ∙ d .before .if1 .left in
-    let size = store-at (a .slot) (sound-of w right (s .pre)) in
-    (rw (c .before .store-of .ensures) size, facts-at (a .slot) (omega (arith, leb-false)) (s .pre))
+    let d = c .before .before .before in
+    let s = start d in
+    let size = store-at (s .args .slot) (sound-of (lent s) (passed d) (s .pre)) in
+    (rw (c .before .store-of .ensures) size, facts-at (s .args .slot) (omega (arith, leb-false)) (s .pre))
 
 returns-2 : tie.Need-returns-2
 unfolding part
 returns-2 c =
     let o = c .before .before in
-    let d = o .before in
-    let k = d .before .before in
-    rw (← k .wrong-stores .ensures, d .before .if1 .left, lt-ltb _ _ (leb-false _ _ (d .if2 .left)), ← o .store-of .ensures)
-    (c .part-of .ensures)
+    rw (passed (o .before .before), lt-ltb _ _ (leb-false _ _ (o .before .if2 .left)), ← o .store-of .ensures) (c .part-of .ensures)
 
 pub request-spec : {M : Type 1} → statement M
 request-spec =
