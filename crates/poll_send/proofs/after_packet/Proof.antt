@@ -9,18 +9,21 @@ use Rattle.machine.specs.Wire.{unit}
 use Rattle.poll_send.proofs.after_packet.Statement.{statement}
 use Rattle.poll_send.proofs.after_packet.Tie as tie
 
+abbrev start : tie.After-struct-known2 → tie.Start
+start k = k .before .before
+
 returns : tie.Need-returns
 returns c =
-    let s = c .before .before .before .before in
+    let s = start (c .before .before) in
     let r = s .args .outgoing in
     rw (c .idled .ensures, last-packet unit _ _ (omega arith) (s .pre .0), le-leb (r .response .length) (unit * r .sent + unit) (omega (arith, c .before .if1 .taken)))
 
 returns-2 : tie.Need-returns-2
 returns-2 c =
-    let k = c .before .before .before in
-    let s = k .before .before .before in
+    let left = c .before .before .before in
+    let s = start (left .before) in
     let r = s .args .outgoing in
-    rw (last-packet unit _ _ (omega arith) (s .pre .0), lt-leb (r .response .length) (unit * r .sent + unit) (omega (arith, k .if1 .left)))
+    rw (last-packet unit _ _ (omega arith) (s .pre .0), lt-leb (r .response .length) (unit * r .sent + unit) (omega (arith, left .if1 .left)))
 
 pub after-packet-spec : {M : Type 1} → statement M
 after-packet-spec =

@@ -8,8 +8,9 @@ use Rattle.poll_send.proofs.sent_control.Tie as tie
 returns : tie.Need-returns
 unfolding sentControl
 returns c =
-    let w = c .before .before .before .before in
-    rw (w .write-packet .ensures .1, w .write-packet .ensures .0, w .before .before .before .before .route-to .ensures)
+    let written = c .before .before .before .before in
+    let routed = written .before .before .before .before in
+    rw (written .write-packet .ensures .1, written .write-packet .ensures .0, routed .route-to .ensures)
 
 pub sent-control-spec : {M : Type 1} → statement M
 sent-control-spec = tie.close (tie.spec (λ c κs. search needs) (λ c. search needs) (λ c κs. search needs) (λ c. search needs) returns)

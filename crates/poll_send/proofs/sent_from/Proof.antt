@@ -24,13 +24,14 @@ write-packet-requires c κs = simp length-take (omega arith)
 returns : tie.Need-returns
 unfolding sentCommand
 returns c =
-    let p = c .before in
-    let w = p .before .before .before .before in
+    let stepped = c .before in
+    let written = stepped .before .before .before .before in
+    let routed = written .before .before .before in
     rw (
-      w .write-packet .ensures .1,
-      w .write-packet .ensures .0,
-      w .before .before .before .route-to .ensures,
-      p .after-packet .ensures,
+      written .write-packet .ensures .1,
+      written .write-packet .ensures .0,
+      routed .route-to .ensures,
+      stepped .after-packet .ensures,
       c .other-slot .ensures,
       same,
     )
