@@ -21,15 +21,14 @@ not-gathering source tag i (Process r) other h = refl
 not-gathering source tag i (Answered r) other h = refl
 not-gathering source tag i (Transmit r) other h = refl
 
+abbrev gathering : tie.After-is-from → tie.After-phase
+gathering f = f .before .before
+
 returns : tie.Need-returns
-returns c =
-    let told = c .before .before .before in
-    rw (told .phase .given .1, sym (c .before .is-from .ensures) ∙ c .if1 .taken)
+returns c = rw (gathering (c .before) .phase .given .1, sym (c .before .is-from .ensures) ∙ c .if1 .taken)
 
 returns-2 : tie.Need-returns-2
-returns-2 c =
-    let told = c .before .before .before in
-    rw (told .phase .given .1, sym (c .before .is-from .ensures) ∙ c .if1 .left)
+returns-2 c = rw (gathering (c .before) .phase .given .1, sym (c .before .is-from .ensures) ∙ c .if1 .left)
 
 returns-3 : tie.Need-returns-3
 returns-3 c = let a = c .before .args in not-gathering (a .source) (a .tag) (a .i) (a .phase) (a .other) (c .match .keys2)
