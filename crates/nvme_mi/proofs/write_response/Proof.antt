@@ -15,13 +15,18 @@ use Rattle.nvme_mi.specs.Response.{responseHeader, response}
 use Rattle.nvme_mi.proofs.write_response.Statement.{statement}
 use Rattle.nvme_mi.proofs.write_response.Tie as tie
 
+-- points of the code: with the body put behind the header, and the start
+abbrev body-put : tie.After-write-check-arg → tie.After-put
+body-put c = c .before .before .before
+
+abbrev start : tie.After-put → tie.Start
+start p = p .before .before .before .before
+
 write-check-requires : tie.Need-write-check-requires
-write-check-requires c κs = omega (arith, simp length-set at (c .before .before .before .put .kept .0))
+write-check-requires c κs = omega (arith, simp length-set at (body-put c .put .kept .0))
 
 same-length : tie.Need-same-length
-same-length c =
-    let w = c .before .before in
-    w .write-check .kept .0 ∙ simp length-set at (w .before .before .before .before .put .kept .0)
+same-length c = let w = c .before .before in w .write-check .kept .0 ∙ simp length-set at (body-put (w .before) .put .kept .0)
 
 -- header and body at the front of a store
 placed : (header store body : List ℕ) → length header + length body ≤ length store
@@ -45,11 +50,11 @@ returns : tie.Need-returns
 unfolding response
 returns c =
     let w = c .before .before in
-    let p = w .before .before .before .before in
-    let a = p .before .before .before .before in
-    let header : List ℕ = responseHeader (a .args .nmimt) (a .args .csi) in
-    let body : List ℕ = a .args .body .now in
-    let store : List ℕ = a .args .store .now in
+    let p = body-put (w .before) in
+    let a = start p .args in
+    let header : List ℕ = responseHeader (a .nmimt) (a .csi) in
+    let body : List ℕ = a .body .now in
+    let store : List ℕ = a .store .now in
     let e : 4 + length body + 4 ≡ length body + 8 = omega arith in
     w .write-check .ensures
     ∙ checked (header ++ body) (drop (4 + length body) store) _ (length body + 4) (simp length-append (omega arith)) (p .put .ensures ∙ placed header store body (omega arith))
