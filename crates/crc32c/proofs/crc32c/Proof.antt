@@ -25,34 +25,24 @@ turn : (s : List ℕ) (x y i : ℕ) → i < length s → y ≡ byteStep x (getD 
 unfolding through
 turn s x y i h e = rw (add-one i, e, drop-cons s i 0 h)
 
-loop-holds : tie.Need-loop-holds Inv-loop μ-loop
-loop-holds c = search needs
-
-shared-slice-read-byte-step : tie.Need-shared-slice-read-byte-step Inv-loop μ-loop
-shared-slice-read-byte-step c = search needs
-
-byte-step-requires : tie.Need-byte-step-requires Inv-loop μ-loop
-byte-step-requires c κs = search needs
-
-add-i : tie.Need-add-i Inv-loop μ-loop
-add-i c = search needs
-
-loop-less : tie.Need-loop-less Inv-loop μ-loop
-loop-less c = search needs
+abbrev bytes-of : tie.At-loop Inv-loop μ-loop → List ℕ
+bytes-of at-loop = at-loop .before .before .args .bytes .now
 
 loop-again : tie.Need-loop-again Inv-loop μ-loop
 loop-again c =
-    let at-loop = c .before .before .before in
-    let s = at-loop .before .before .args .bytes .now in
-    (search needs, turn s (at-loop .loop .x) (c .byte-step .result) (at-loop .loop .i) (c .before .before .loop-test .taken) (c .byte-step .ensures) ∙ at-loop .loop .inv .1)
+    let in-loop = c .before .before in
+    let l = in-loop .before .loop in
+    (search needs, turn (bytes-of (in-loop .before)) (l .x) (c .byte-step .result) (l .i) (in-loop .loop-test .taken) (c .byte-step .ensures) ∙ l .inv .1)
 
 returns : tie.Need-returns Inv-loop μ-loop
 unfolding through
 returns c =
     let at-loop = c .before in
-    let s = at-loop .before .before .args .bytes .now in
+    let s = bytes-of at-loop in
     ap (λ (y : ℕ). bitXor y 0xFFFFFFFF) (rw (drop-of-length-le s (c .loop-test .left)) at (at-loop .loop .inv .1))
     ∙ sym (same s (λ i. at-loop .before .shared-slice-known .given i .fits))
 
 pub crc32c-spec : {M : Type 1} → statement M
-crc32c-spec = tie.close (tie.spec Inv-loop μ-loop loop-holds shared-slice-read-byte-step byte-step-requires add-i loop-less loop-again returns)
+crc32c-spec =
+    tie.close
+    (tie.spec Inv-loop μ-loop (λ c. search needs) (λ c. search needs) (λ c κs. search needs) (λ c. search needs) (λ c. search needs) loop-again returns)
