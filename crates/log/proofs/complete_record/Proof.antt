@@ -6,9 +6,10 @@ use Rattle.log.proofs.complete_record.Tie as tie
 
 returns : tie.Need-returns
 returns c =
-    let n = c .before .before in
-    let r = n .before .before .before .before .before .before in
-    rw (← r .before .before .before .ticket-of .ensures, ← r .complete .ensures .0) (n .numbered .ensures _ _)
+    let line-put = c .before .before in
+    let called = line-put .before .before .before .before .before .before in
+    let ticket-known = called .before .before .before in
+    rw (← ticket-known .ticket-of .ensures, ← called .complete .ensures .0) (line-put .numbered .ensures _ _)
 
 pub complete-record-spec : {M : Type 1} → statement M
 complete-record-spec = tie.close (tie.spec (λ c κs. search needs) (λ c κs. search needs) (λ c κs. search needs) (λ c. search needs) (λ c. search needs) (λ c. search needs) returns)

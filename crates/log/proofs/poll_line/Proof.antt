@@ -8,11 +8,15 @@ use lib.Seq.{length-take-le}
 use Rattle.log.proofs.poll_line.Statement.{statement}
 use Rattle.log.proofs.poll_line.Tie as tie
 
+-- points of the code: at the arm of a packet, and the start
+abbrev sends : tie.After-packet-line-arg2 → tie.After-answer2
+sends c = c .before .before .before
+
+abbrev start : tie.After-answer2 → tie.Start
+start a = a .before .before .before .before
+
 packet-fits : tie.Need-slice-aggregate-packet-line
-packet-fits c =
-    let a = c .before .before .before in
-    let most = c .before .before .before .before .before .before .before .pre .1 _ (a .answer2 .given .1) in
-    sym (length-take-le _ _ most)
+packet-fits c = sym (length-take-le _ _ (start (sends c) .pre .1 _ (sends c .answer2 .given .1)))
 
 packet-line-requires : tie.Need-packet-line-requires
 packet-line-requires c κs = (search needs, simp length-take (omega arith))
@@ -24,7 +28,7 @@ returns-2 : tie.Need-returns-2
 returns-2 c = let n = c .before .before in rw (n .before .before .enum-told .given .1) (n .number-line2 .ensures)
 
 returns-3 : tie.Need-returns-3
-returns-3 c = let n = c .before .before in rw (n .before .before .before .before .answer2 .given .1) (n .packet-line .ensures)
+returns-3 c = let n = c .before .before in rw (sends (n .before) .answer2 .given .1) (n .packet-line .ensures)
 
 pub poll-line-spec : {M : Type 1} → statement M
 poll-line-spec =

@@ -10,10 +10,17 @@ use Rattle.log.specs.Log.{pollLine}
 use Rattle.log.proofs.poll_record.Statement.{statement}
 use Rattle.log.proofs.poll_record.Tie as tie
 
+-- points of the code: behind the call, and the start
+abbrev polled : tie.After-buffer3 → tie.After-poll
+polled c = c .before .before .before
+
+abbrev start : tie.After-poll → tie.Start
+start p = p .before .before .before .before .before
+
 poll-line-requires : tie.Need-poll-line-requires
 poll-line-requires c κs =
-    let p = c .before .before .before in
-    let a = p .before .before .before .before .before .args in
+    let p = polled c in
+    let a = start p .args in
     let d = p .poll .result in (
       (search needs, search needs),
       λ n e. let most = packet-fits (world (a .session .endpoint) (a .store0 .now) (a .store1 .now)) (replicate 68 0) _ (p .poll .ensures .0) (search needs) n e in
@@ -23,7 +30,7 @@ poll-line-requires c κs =
 returns : tie.Need-returns
 returns c =
     let l = c .before .before .before in
-    let p = l .before .before .before .before in
+    let p = polled (l .before) in
     rw (← p .poll .ensures .0) (told-by (pollLine _ (p .poll .result .answer)) (l .poll-line .ensures) (c .moved .ensures) (p .poll .ensures .1 .1))
 
 pub poll-record-spec : {M : Type 1} → statement M

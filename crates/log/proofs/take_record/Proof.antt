@@ -11,14 +11,14 @@ use Rattle.log.proofs.take_record.Tie as tie
 
 returns : tie.Need-returns
 returns c =
-    let n = c .before .before .before .before in
-    let r = n .before .before .before in
-    let a = r .before .before .args in
-    let d = r .take .result in
-    λ x y. rw (← r .take .ensures .0)
-    (told-by (numberLine (takeSays (d .answer) .0)) (rw (n .before .take-number .ensures) at (n .number-line .ensures))
+    let line-put = c .before .before .before .before in
+    let called = line-put .before .before .before in
+    let a = called .before .before .args in
+    let d = called .take .result in
+    λ x y. rw (← called .take .ensures .0)
+    (told-by (numberLine (takeSays (d .answer) .0)) (rw (line-put .before .take-number .ensures) at (line-put .number-line .ensures))
     (c .ticket-kept .ensures ∙ rw (c .before .moved .ensures))
-    (kept-valid (withEndpoint (a .session) (d .endpoint)) (a .slot) (d .answer) (r .take .ensures .1 .1)))
+    (kept-valid (withEndpoint (a .session) (d .endpoint)) (a .slot) (d .answer) (called .take .ensures .1 .1)))
 
 pub take-record-spec : {M : Type 1} → statement M
 take-record-spec =
