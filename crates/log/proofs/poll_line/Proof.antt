@@ -22,7 +22,10 @@ packet-line-requires : tie.Need-packet-line-requires
 packet-line-requires c κs = (search needs, simp length-take (omega arith))
 
 returns : tie.Need-returns
-returns c = let n = c .before .before in rw (n .before .before .before .answer .given .1) (n .number-line .ensures)
+returns c =
+    let line-put = c .before .before in
+    let refuses = line-put .before .before .before in
+    rw (refuses .answer .given .1) (line-put .number-line .ensures)
 
 returns-2 : tie.Need-returns-2
 returns-2 c = let n = c .before .before in rw (n .before .before .enum-told .given .1) (n .number-line2 .ensures)

@@ -16,15 +16,16 @@ use Rattle.log.proofs.record.Tie as tie
 returns : tie.Need-returns
 unfolding recorded
 returns c =
-    let p = c .before .before .before .before .before .before in
-    rw (eq-eqb _ _ (p .before .before .before .before .if1 .taken)) (p .packet-record .ensures)
+    let called = c .before .before .before .before .before .before in
+    let tested = called .before .before .before .before in
+    rw (eq-eqb _ _ (tested .if1 .taken)) (called .packet-record .ensures)
 
 returns-2 : tie.Need-returns-2
 unfolding recorded
 returns-2 c =
-    let p = c .before .before in
-    let t = p .before .before .before .before in
-    rw (ne-eqb _ _ (t .before .if1 .left), eq-eqb _ _ (t .if2 .taken)) (p .poll-record .ensures)
+    let called = c .before .before in
+    let tested = called .before .before .before .before in
+    rw (ne-eqb _ _ (tested .before .if1 .left), eq-eqb _ _ (tested .if2 .taken)) (called .poll-record .ensures)
 
 -- points of the code: the start, from behind records 1 and 2; behind 6, with the slot byte read
 abbrev start : tie.Else2 → tie.Start
@@ -49,29 +50,30 @@ slot-byte t = has-slot _ _ (start (t .before) .pre .1) (not-packet (t .before)) 
 returns-3 : tie.Need-returns-3
 unfolding recorded
 returns-3 c =
-    let p = c .before .before in
-    let t = p .before .before in
-    let a = start (t .before) .args in
-    rw (not-packet (t .before), not-poll (t .before), eq-eqb _ _ (t .if3 .taken)) (p .reset-record .ensures (a .store0 .now) (a .store1 .now))
+    let called = c .before .before in
+    let tested = called .before .before in
+    let d = tested .before in
+    rw (not-packet d, not-poll d, eq-eqb _ _ (tested .if3 .taken)) (called .reset-record .ensures (start d .args .store0 .now) (start d .args .store1 .now))
 
 returns-4 : tie.Need-returns-4
 unfolding recorded
 returns-4 c =
-    let p = c .before .before in
-    let w = p .before .before .before in
+    let called = c .before .before in
+    let tested = called .before .before in
+    let w = tested .before in
     let d = slotted w .before in
-    rw (not-packet d, not-poll d, not-reset (slotted w), eq-eqb _ _ (p .before .before .if4 .taken), ← w .wide .ensures .0)
-    (p .timeout-record .ensures (start d .args .store0 .now) (start d .args .store1 .now))
+    rw (not-packet d, not-poll d, not-reset (slotted w), eq-eqb _ _ (tested .if4 .taken), ← w .wide .ensures .0)
+    (called .timeout-record .ensures (start d .args .store0 .now) (start d .args .store1 .now))
 
 returns-5 : tie.Need-returns-5
 unfolding recorded
 returns-5 c =
-    let p = c .before .before in
-    let taking = p .before .before in
-    let w = taking .before .before in
+    let called = c .before .before in
+    let tested = called .before .before in
+    let w = tested .before .before in
     let d = slotted w .before in
-    rw (not-packet d, not-poll d, not-reset (slotted w), ne-eqb _ _ (taking .before .if4 .left), eq-eqb _ _ (taking .if5 .taken), ← w .wide .ensures .0)
-    (p .take-record .ensures (start d .args .store0 .now) (start d .args .store1 .now))
+    rw (not-packet d, not-poll d, not-reset (slotted w), ne-eqb _ _ (tested .before .if4 .left), eq-eqb _ _ (tested .if5 .taken), ← w .wide .ensures .0)
+    (called .take-record .ensures (start d .args .store0 .now) (start d .args .store1 .now))
 
 sub-complete-record : tie.Need-sub-complete-record
 sub-complete-record c = slot-byte (slotted (c .before .before .before .before))
@@ -79,12 +81,12 @@ sub-complete-record c = slot-byte (slotted (c .before .before .before .before))
 returns-6 : tie.Need-returns-6
 unfolding recorded
 returns-6 c =
-    let p = c .before .before .before .before .before .before in
-    let completing = p .before .before .before .before .before in
-    let w = completing .before .before in
+    let called = c .before .before .before .before .before .before in
+    let tested = called .before .before .before .before .before in
+    let w = tested .before .before in
     let d = slotted w .before in
-    rw (not-packet d, not-poll d, not-reset (slotted w), ne-eqb _ _ (completing .before .if4 .left), ne-eqb _ _ (completing .if5 .left), ← w .wide .ensures .0)
-    (rw (rest 1 (start d .args .body .now)) at (p .complete-record .ensures))
+    rw (not-packet d, not-poll d, not-reset (slotted w), ne-eqb _ _ (tested .before .if4 .left), ne-eqb _ _ (tested .if5 .left), ← w .wide .ensures .0)
+    (rw (rest 1 (start d .args .body .now)) at (called .complete-record .ensures))
 
 pub record-spec : {M : Type 1} → statement M
 record-spec =

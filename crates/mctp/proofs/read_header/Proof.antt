@@ -21,7 +21,7 @@ same-beq true false = refl
 same-beq false true = refl
 same-beq false false = refl
 
--- points of the code: behind 11; behind 12; behind 13
+-- points of the code: the start; behind 11; behind 12
 abbrev start : tie.Else2 → tie.Start
 start d = d .before .before
 

@@ -19,12 +19,12 @@ use Rattle.slots.proofs.Kept.{kept}
 use Rattle.poll.proofs.poll.Statement.{statement}
 use Rattle.poll.proofs.poll.Tie as tie
 
--- points of the code: behind 36, behind 40, and the start
+-- points of the code: the start, and behind 40
+abbrev start : tie.After-wrong-stores → tie.Start
+start w = w .before .before .before .before
+
 abbrev stores-right : tie.After-ready → tie.Else1
 stores-right r = r .before .before
-
-abbrev start : tie.Else1 → tie.Start
-start e = e .before .before .before .before .before
 
 -- the endpoint and both stores, as they are lent
 abbrev lent : tie.Start → World
@@ -38,26 +38,25 @@ done s h =
     kept (λ (p : Polled). (pollSays (p .answer) .0 ≡ pollNumber (lent s) buffer) × Valid (p .endpoint))
     (ap (λ (x : ℕ × List ℕ). x .0) (poll-numbers (lent s) buffer (s .pre)), polled-valid (lent s) buffer (s .pre)) h
 
-passed : (e : tie.Else1) → wrongStores (lent (start e)) ≡ false
+passed : (e : tie.Else1) → wrongStores (lent (start (e .before))) ≡ false
 passed e = sym (e .before .wrong-stores .ensures) ∙ e .if1 .left
 
 returns : tie.Need-returns
 unfolding polled
-returns c =
-    let stores = c .before in
-    done (stores .before .before .before .before) (rw (← stores .wrong-stores .ensures, c .if1 .taken))
+returns c = done (start (c .before)) (rw (sym (c .before .wrong-stores .ensures) ∙ c .if1 .taken))
 
 returns-2 : tie.Need-returns-2
 unfolding polled
 returns-2 c =
-    let e = c .before in
-    done (start e) (rw (passed e, lt-ltb (length (start e .args .buffer .now)) packet-room (omega arith)))
+    let s = start (c .before .before) in
+    done s (rw (passed (c .before), lt-ltb (length (s .args .buffer .now)) packet-room (omega arith)))
 
 polled-by-requires : tie.Need-polled-by-requires
 polled-by-requires c κs =
     let e = stores-right (c .before) in
-    let size = sizes (lent (start e)) (passed e) in
-    ((start e .pre, c .before .ready .ensures), (size .0, size .1, omega arith))
+    let s = start (e .before) in
+    let size = sizes (lent s) (passed e) in
+    ((s .pre, c .before .ready .ensures), (size .0, size .1, omega arith))
 
 returns-3 : tie.Need-returns-3
 unfolding polled
@@ -65,8 +64,8 @@ returns-3 c =
     let call = c .before .before in
     let r = call .before .before in
     let e = stores-right r in
-    done (start e)
-    (rw (passed e, le-ltb (length (start e .args .buffer .now)) packet-room (omega arith), ← r .ready .ensures) (call .polled-by .ensures))
+    let s = start (e .before) in
+    done s (rw (passed e, le-ltb (length (s .args .buffer .now)) packet-room (omega arith), ← r .ready .ensures) (call .polled-by .ensures))
 
 pub poll-spec : {M : Type 1} → statement M
 poll-spec =

@@ -13,6 +13,7 @@ use Rattle.receive.proofs.Opens.{sized}
 use Rattle.receive.proofs.first.Statement.{statement}
 use Rattle.receive.proofs.first.Tie as tie
 
+-- from what the message's bytes say
 abbrev start : tie.After-opened → tie.Start
 start o = o .before .before .before .before
 

@@ -27,7 +27,7 @@ use Rattle.receive.proofs.receive.Tie as tie
 abbrev lent : tie.Start → World
 lent s = world (s .args .endpoint) (s .args .store0 .now) (s .args .store1 .now)
 
--- points of the code: the start; behind 40; a packet's header read, from its first packet and from a later one
+-- points of the code: the start; behind 40; a header that is read, from a first packet and from a later one
 abbrev start : tie.After-wrong-stores → tie.Start
 start w = w .before .before .before .before
 
