@@ -22,7 +22,8 @@ from captures import cli, pcap, told  # noqa: E402
 from records import POLL, ask, command, complete, packet, take  # noqa: E402
 from second import log as second_log  # noqa: E402
 from second.wire import GET_STATE, PAUSE, packet_of, response  # noqa: E402
-from stored import stored_logs  # noqa: E402
+from programs import LOG  # noqa: E402
+from stored import stored_inputs  # noqa: E402
 
 TOOL = HERE.parent / "tools" / "capture.py"
 PACKET = bytes.fromhex("010809c9") + command()              # an MI command to EID 8
@@ -675,7 +676,7 @@ class Check(Case):
     def test_refused(self):
         status, out, _ = self.check([bytes((1, 8, 9, 0xC9, 0, 0)), PACKET, REPLY])
         self.assertEqual(status, 0)
-        self.assertIn("refused  line 1: answer 15: first byte is not 84h, or ROR is 1", out)
+        self.assertIn("refused  line 1: answer 15: the first byte is not 84h, or ROR is 1", out)
         self.assertIn("1 to the board and refused", out)
 
     def test_readdressed(self):
@@ -716,23 +717,23 @@ class Writing(Case):
                     yield list(pcap.options("<", each.body[20 + (kept + 3) // 4 * 4:]))
 
     def test_stored_logs_come_back(self):
-        for stored in stored_logs():
-            wanted = [body for tag, body in records_of(stored.log) if tag == 1]
+        for stored in stored_inputs(LOG):
+            wanted = [body for tag, body in records_of(stored.input) if tag == 1]
             sent = [line[2:] for line in stored.output.decode().splitlines() if line.startswith("1 ")]
             bad = b"bad" in stored.output
             for options, back in (([], []), (["--link", USER0], []), (["--classic"], ["--seen-from", "board"])):
                 with self.subTest(stored.name, options=options):
-                    capture, _ = self.to_pcap(stored.log, *options, status=bad)
+                    capture, _ = self.to_pcap(stored.input, *options, status=bad)
                     log, said = self.from_pcap(capture, *back)
                     tags = records_of(log)
                     self.assertEqual([body for tag, body in tags if tag == 1], wanted, said)
                     self.assertEqual(sum(tag == 2 for tag, _ in tags), len(sent))
 
     def test_stored_logs_by_hex_lines(self):
-        for stored in stored_logs():
+        for stored in stored_inputs(LOG):
             with self.subTest(stored.name):
                 lines, wanted = [], b""
-                for (tag, body), line in zip(records_of(stored.log), stored.output.decode().splitlines()):
+                for (tag, body), line in zip(records_of(stored.input), stored.output.decode().splitlines()):
                     if tag == 1 and body:
                         lines.append(f"> {body.hex()}")
                         wanted += record(body)
@@ -755,11 +756,11 @@ class Writing(Case):
         found = list(self.options_of(self.to_pcap(log)[0]))
         self.assertEqual([dict(each)[2] for each in found], [b"\1\0\0\0", b"\1\0\0\0", b"\2\0\0\0"])
         comments = [[value.decode() for code, value in each if code == 1] for each in found]
-        self.assertEqual(comments, [["record 1, answer 13: destination is not our EID (flag bit 8)"],
-                                    ["record 2, answer 1: command complete"],
-                                    ["record 5, answer 1: the endpoint sends this packet",
-                                     "before it: record 3, take of slot 0, answer 0: done; "
-                                     "record 4, completion of slot 0, answer 0: done"]])
+        self.assertEqual(comments, [["record 1, answer 13: the destination is not our EID (flag bit 8)"],
+                                    ["record 2, answer 1: a command is complete"],
+                                    ["record 5, answer 1: a packet goes out",
+                                     "before it: record 3, take of slot 0, answer 0: taken; "
+                                     "record 4, completion of slot 0, answer 0: completed"]])
 
     def test_many_calls_before_a_packet(self):
         found = list(self.options_of(self.to_pcap(take() * 20 + packet(command()))[0]))

@@ -27,7 +27,8 @@ from generate import generate  # noqa: E402
 from records import POLL, RESET, ask, command, complete, control, damaged, packet, packets, record, take, timeout  # noqa: E402
 from second.log import log_lines, records  # noqa: E402
 from second.wire import ABORT, GET_STATE, PAUSE, RESUME  # noqa: E402
-from stored import stored_logs  # noqa: E402
+from programs import LOG  # noqa: E402
+from stored import stored_inputs  # noqa: E402
 
 BODY = bytes((0, 7, 8, 9))
 
@@ -156,8 +157,8 @@ class Grounds(Case):
         self.says([*WAITING, complete(bytes(3))], "35, the body has 3 bytes, not 4 to 4,216")
 
     def test_every_refusal_has_its_words(self):
-        for log in stored_logs():
-            for found in objects(log.log)[:-1]:
+        for log in stored_inputs(LOG):
+            for found in objects(log.input)[:-1]:
                 self.assertTrue(found["words"])
 
 
@@ -260,7 +261,7 @@ class Reading(Case):
                 self.assertEqual(end["summary"]["fault"], {"offset": 3, "cause": cause})
 
     def test_same_records_as_the_second_program(self):
-        logs = [log.log for log in stored_logs()] + [generate(seed, 300)[0] for seed in range(8)]
+        logs = [log.input for log in stored_inputs(LOG)] + [generate(seed, 300)[0] for seed in range(8)]
         for log in logs:
             found = [(each.tag, each.body) for each in reading.records(io.BytesIO(log))]
             self.assertEqual(found, list(records(io.BytesIO(log))))
@@ -333,7 +334,7 @@ class JsonLines(Case):
     FIELDS = {"record", "offset", "kind", "fields", "answer", "refused", "sent", "words", "second", "slots", "reply_waits"}
 
     def test_every_line(self):
-        for log in [log.log for log in stored_logs()] + [generate(3, 500)[0]]:
+        for log in [log.input for log in stored_inputs(LOG)] + [generate(3, 500)[0]]:
             *found, end = objects(log)
             self.assertEqual(list(end), ["summary"])
             self.assertEqual([each["record"] for each in found], list(range(1, len(found) + 1)))
@@ -384,7 +385,7 @@ class Parsed(html.parser.HTMLParser):
 
 class Pages(Case):
     def test_well_formed(self):
-        for log in [log.log for log in stored_logs() if len(log.log) < 2000] + [generate(5, 200)[0]]:
+        for log in [log.input for log in stored_inputs(LOG) if len(log.input) < 2000] + [generate(5, 200)[0]]:
             parsed = Parsed(explained(log, "--html"))
             self.assertEqual((parsed.open, parsed.wrong), ([], []))
 

@@ -3,7 +3,8 @@ import collections
 import itertools
 
 from captures.run import with_lines
-from captures.told import REFUSALS, Failure, answer_in_words
+from captures.told import Failure, answer_in_words
+from explain.names import REFUSALS
 from second.log import PACKET, POLL
 
 KINDS = {"same": "the same", "differs": "other than the endpoint's", "missing": "not sent by the endpoint",

@@ -2,7 +2,8 @@
 import collections
 import sys
 
-from second.log import COMPLETE, PACKET, POLL, RESET, TAKE, TIMEOUT
+from explain.names import DONE, REFUSAL_FLAG, REFUSALS
+from second.log import COMPLETE, RESET, TAKE, TIMEOUT
 
 # A captured packet: where it stands in its file, its bytes, and TO_BOARD, FROM_BOARD or None if the file doesn't say.
 Captured = collections.namedtuple("Captured", "place data direction")
@@ -54,44 +55,15 @@ def counted(number, word):
     return f"{number:,} {word if number == 1 else plural}"
 
 
-REFUSALS = {
-    10: "packet shorter than 5 bytes",
-    11: "packet longer than 68 bytes (flag bit 6)",
-    12: "version is not 1 (flag bit 7)",
-    13: "destination is not our EID (flag bit 8)",
-    14: "TO is 0 (flag bit 12)",
-    15: "first byte is not 84h, or ROR is 1",
-    16: "EOM 0 and the payload is not 64 bytes (flag bit 9)",
-    17: "message shorter than 8 bytes",
-    18: "control primitive that is not one packet of 12 bytes",
-    19: "integrity check wrong (flag bit 4)",
-    20: "the command's slot is not Idle (that slot's flag bit 3)",
-    21: "no slot is in Receive with this source and tag (flag bit 10)",
-    22: "out of sequence, the slot goes to Idle (flag bit 11)",
-    23: "total above 4,224 bytes, the slot goes to Idle",
-    30: "no such slot",
-    31: "the slot is not in Process, or its response is there",
-    32: "the ticket is not the slot's present one",
-    33: "taken already",
-    34: "not taken",
-    35: "body not 4 to 4,216 bytes",
-    37: "the slot is not in Receive, or it is paused",
-}
-SUCCESSES = {
-    (PACKET, 0): "taken in, more to come",
-    (PACKET, 1): "command complete",
-    (PACKET, 2): "control primitive answered",
-    (POLL, 0): "nothing to send",
-    (POLL, 1): "the endpoint sends this packet",
-}
 CALLS = {TIMEOUT: "timeout of slot {}", TAKE: "take of slot {}", COMPLETE: "completion of slot {}", RESET: "reset"}
 
 
 def answer_in_words(tag, line):
     """A line of the log program in words; `tag` is the record's."""
     number = int(line.split()[0])
-    words = SUCCESSES.get((tag, number)) or REFUSALS.get(number) or ("done" if number == 0 else None)
-    return f"answer {number}: {words}" if words else f"answer {number}"
+    words = DONE[tag].get(number) or REFUSALS.get(number)
+    flag = f" (flag bit {REFUSAL_FLAG[number]})" if number in REFUSAL_FLAG else ""
+    return f"answer {number}: {words}{flag}" if words else f"answer {number}"
 
 
 def call_in_words(tag, body):
