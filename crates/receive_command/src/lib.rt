@@ -16,7 +16,7 @@ use machine::sizes::UNIT;
 use mctp::Header;
 use mctp::NO_REFUSAL;
 use receive_assembly::holder;
-use receive_gather::gathered;
+use receive_gather::gathered_in;
 use receive_refused::refused;
 use receive_refused::refused_busy;
 use slots::dropped;
@@ -38,7 +38,7 @@ pub fn first_command(
     if !is_idle(phase_of(endpoint, slot)) {
         return refused_busy(endpoint, slot);
     }
-    gathered(endpoint, store0, store1, slot, 0, header, message)
+    gathered_in(endpoint, store0, store1, slot, 0, header, message)
 }
 
 // SOM 0, for the slot that gathers under this source and tag: 22, 16 and 23 send it to Idle.
@@ -57,7 +57,7 @@ fn later_at(
 {
     if refusal == NO_REFUSAL {
         let at = assembly.length;
-        return gathered(endpoint, store0, store1, slot, at, header, payload);
+        return gathered_in(endpoint, store0, store1, slot, at, header, payload);
     }
     refused(dropped(endpoint, slot), refusal)
 }

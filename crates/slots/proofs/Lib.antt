@@ -1,4 +1,5 @@
 pub mod Kept
 pub mod Other
+pub mod Placed
 pub mod Rows
 pub mod Stores

@@ -1,10 +1,11 @@
 // Entering Process, and the response that a slot then gets.
 ghost use mathlib.Core.Path.{_≡_};
-ghost use Prim.Native.Nat.{_+_, _<_, _≤_};
+ghost use mathlib.Core.List.{List};
+ghost use Prim.Native.Nat.{ℕ, _+_, _<_, _≤_};
 ghost use lib.ListN.{length};
-ghost use Rattle.machine.specs.State.{world};
 ghost use Rattle.machine.specs.Wire.{store-size};
 ghost use Rattle.machine.specs.Process.{request as Process·request, processing as Process·processing, responseTo, responded as Process·responded, respondedAtOnce, pausedIf, entered as Process·entered};
+ghost use Rattle.slots.specs.Placed.{placed};
 use machine::Assembly;
 use machine::Endpoint;
 use machine::Phase;
@@ -61,20 +62,15 @@ fn response_to(request: Request, body: &[u8]) -> Response
 // The response overwrites the front of the slot's store. The CSI that chose the slot is its number.
 pub fn responded(
     endpoint: Endpoint,
-    store0: &mut [u8],
-    store1: &mut [u8],
+    store: &mut [u8],
     slot: usize,
     request: Request,
     body: &[u8],
 ) -> Endpoint
-    requires { ⌜ (length (now store0) ≡ store-size) × (length (now store1) ≡ store-size) × (slot < 2) × (length (now body) + 8 ≤ store-size) ⌝ }
-    ensures { λ r. ⌜ world r (now (store0 .exit)) (now (store1 .exit)) ≡ Process·responded (world endpoint (now (store0 .entry)) (now (store1 .entry))) slot request (now (body .entry)) ⌝ }
+    requires { ⌜ (length (now store) ≡ store-size) × (slot < 2) × (length (now body) + 8 ≤ store-size) ⌝ }
+    ensures { λ r. ⌜ ((other : List ℕ) → placed slot r (now (store .exit)) other ≡ Process·responded (placed slot endpoint (now (store .entry)) other) slot request (now (body .entry))) ⌝ }
 {
-    if slot == 0 {
-        nvme_mi::write_response(store0, request.kind, 0, body);
-    } else {
-        nvme_mi::write_response(store1, request.kind, 1, body);
-    }
+    nvme_mi::write_response(store, request.kind, slot as u8, body);
     let s = endpoint.slots[slot];
     let phase = settled(s.paused, response_to(request, body));
     with_slot(endpoint, slot, Slot { phase, ..s })
@@ -83,20 +79,19 @@ pub fn responded(
 // A command with a fault is answered at once.
 fn responded_at_once(
     endpoint: Endpoint,
-    store0: &mut [u8],
-    store1: &mut [u8],
+    store: &mut [u8],
     slot: usize,
     request: Request,
     fault: Fault,
 ) -> Endpoint
-    requires { ⌜ (length (now store0) ≡ store-size) × (length (now store1) ≡ store-size) × (slot < 2) ⌝ }
-    ensures { λ r. ⌜ world r (now (store0 .exit)) (now (store1 .exit)) ≡ respondedAtOnce (world endpoint (now (store0 .entry)) (now (store1 .entry))) slot request fault ⌝ }
+    requires { ⌜ (length (now store) ≡ store-size) × (slot < 2) ⌝ }
+    ensures { λ r. ⌜ ((other : List ℕ) → placed slot r (now (store .exit)) other ≡ respondedAtOnce (placed slot endpoint (now (store .entry)) other) slot request fault) ⌝ }
 {
     if let Fault::NoFault = fault {
         return endpoint;
     }
     let body = nvme_mi::fault_body(fault);
-    responded(endpoint, store0, store1, slot, request, &body)
+    responded(endpoint, store, slot, request, &body)
 }
 
 // With CIAP 1, Pause acts, without a reply.
@@ -109,18 +104,17 @@ fn paused_if(ciap: bool, endpoint: Endpoint) -> Endpoint
 // The slot enters Process with a whole command.
 pub fn entered(
     endpoint: Endpoint,
-    store0: &mut [u8],
-    store1: &mut [u8],
+    store: &mut [u8],
     slot: usize,
     assembly: Assembly,
     message_header: MessageHeader,
 ) -> Endpoint
-    requires { ⌜ (length (now store0) ≡ store-size) × (length (now store1) ≡ store-size) × (slot < 2) ⌝ }
-    ensures { λ r. ⌜ world r (now (store0 .exit)) (now (store1 .exit)) ≡ Process·entered (world endpoint (now (store0 .entry)) (now (store1 .entry))) slot assembly «message_header» ⌝ }
+    requires { ⌜ (length (now store) ≡ store-size) × (slot < 2) ⌝ }
+    ensures { λ r. ⌜ ((other : List ℕ) → placed slot r (now (store .exit)) other ≡ Process·entered (placed slot endpoint (now (store .entry)) other) slot assembly «message_header») ⌝ }
 {
     let request = request_of(assembly, message_header);
     let e = with_slot(endpoint, slot, processing(endpoint.slots[slot], request));
     let fault = nvme_mi::command_fault(message_header, assembly.length);
     let paused = paused_if(message_header.ciap, e);
-    responded_at_once(paused, store0, store1, slot, request, fault)
+    responded_at_once(paused, store, slot, request, fault)
 }

@@ -3,23 +3,21 @@
 -- Assumes nothing.
 use Prim.Native.Nat.{ℕ, _≤_}
 use mathlib.Core.Path.{_≡_, refl, sym, ap, _∙_}
-use mathlib.Core.Bool.{true, false}
+use mathlib.Core.Bool.{false}
 use mathlib.Core.Logic.{⊎-elim}
 use mathlib.Core.List.{List}
 use native.Mathlib.Omega.{arith}
-use lib.Dec.{eqb}
 use lib.ListN.{length}
 use borrow.Author.Needs.{needs}
 use borrow.Author.Tests.{lt-ltb, le-ltb, eq-eqb, ne-eqb, ltb-true, ltb-false}
 use Rattle.machine.specs.Answers.{no-command}
-use Rattle.machine.specs.State.{World, outcome, world, slotAt}
+use Rattle.machine.specs.State.{World, Outcome, outcome, world, slotAt}
 use Rattle.machine.specs.Wire.{wrongStores}
-use Rattle.machine.specs.Process.{responded}
-use Rattle.machine.specs.Finish.{completedIn, completed}
-use Rattle.machine.specs.Valid.{Valid}
+use Rattle.machine.specs.Finish.{completedRow, completedIn, completed}
 use Rattle.machine.specs.declared.Ticket.{Ticket}
 use Rattle.machine.specs.declared.Phase.{Phase}
-use Rattle.machine.specs.declared.Endpoint.{Endpoint}
+use Rattle.machine.specs.declared.Taking.{Taking}
+use Rattle.machine.specs.declared.Taking.the-variants.{Untaken, Taken}
 use Rattle.machine.proofs.Keeps.{completed-valid, sizes}
 use Rattle.slots.proofs.Kept.{kept}
 use Rattle.slots.proofs.Other.{not-process}
@@ -27,117 +25,140 @@ use Rattle.slots.proofs.Stores.{Stays}
 use Rattle.finish.proofs.complete.Statement.{statement}
 use Rattle.finish.proofs.complete.Tie as tie
 
--- what 40 and 30 leave
-at-slot : (w : World) (i : ℕ) (t : Ticket) (body : List ℕ) → wrongStores w ≡ false → i ≤ 1 → completed w i t body ≡ completedIn w i t body (slotAt (w .endpoint) i .phase)
-unfolding completed
-at-slot w i t body s h = rw (s, lt-ltb i 2 (omega arith))
+-- ---- points of the code, each from a later one
+
+abbrev start : tie.After-wrong-stores → tie.Start
+start c = c .before .before .before .before
+
+-- what the call was given, from behind 40 and 30
+abbrev given : tie.Else2 → tie.Start
+given c = start (c .before .before)
+
+-- behind 30, from where the slot is in Process
+abbrev slot : tie.After-phase → tie.Else2
+slot c = c .before .before .before
+
+-- behind 31, from where the tickets are compared
+abbrev command : tie.After-struct-known2 → tie.After-phase
+command c = c .before .before .before .before
+
+-- behind 32, from where the command is taken
+abbrev present : tie.After-enum-told → tie.Else3
+present c = c .before .before
+
+-- ---- what is known there
 
 -- the endpoint and both stores, as they are lent
 abbrev lent : tie.Start → World
 lent s = world (s .args .t1) (s .args .store0 .now) (s .args .store1 .now)
 
--- behind 40 and 30
-abbrev start : tie.Else2 → tie.Start
-start d = d .before .before .before .before .before .before
+abbrev due : tie.Start → Outcome
+due s = completed (lent s) (s .args .slot) (s .args .ticket) (s .args .body .now)
 
-still : (s : tie.Start) → Stays (completed (lent s) (s .args .slot) (s .args .ticket) (s .args .body .now))
-still s = completed-valid (lent s) (s .args .slot) (s .args .ticket) (s .args .body .now) (s .pre)
+met : (s : tie.Start) {o : Outcome} → o ≡ due s → (o ≡ due s) × Stays o
+met s e = kept Stays (completed-valid (lent s) (s .args .slot) (s .args .ticket) (s .args .body .now) (s .pre)) e
 
-passed : (d : tie.Else2) → wrongStores (lent (start d)) ≡ false
-passed d = sym (d .before .before .wrong-stores .ensures) ∙ d .before .if1 .left
+passed : (c : tie.Else1) → wrongStores (lent (start (c .before))) ≡ false
+passed c = sym (c .before .wrong-stores .ensures) ∙ c .if1 .left
 
-finish : (d : tie.Else2) {n : ℕ} {e : Endpoint} {a b : List ℕ}
-    → let s = start d in outcome n (world e a b) ≡ completedIn (lent s) (s .args .slot) (s .args .ticket) (s .args .body .now) (slotAt (s .args .t1) (s .args .slot) .phase)
-    → (outcome n (world e a b) ≡ completed (lent s) (s .args .slot) (s .args .ticket) (s .args .body .now)) × Valid e
-finish d row =
-    let s = start d in
-    kept Stays (still s) (row ∙ sym (at-slot (lent s) (s .args .slot) (s .args .ticket) (s .args .body .now) (passed d) (d .if2 .left)))
+-- what 40 and 30 leave
+at-slot : (w : World) (i : ℕ) (t : Ticket) (body : List ℕ) → wrongStores w ≡ false → i ≤ 1 → completed w i t body ≡ completedIn w i t body (slotAt (w .endpoint) i .phase)
+unfolding completed
+at-slot w i t body s h = rw (s, lt-ltb i 2 (omega arith))
 
--- the slot's ticket
-abbrev present : tie.Else2 → ℕ
-present d = slotAt (start d .args .t1) (start d .args .slot) .ticket .0
+by-phase : (c : tie.Else2) {o : Outcome} → let s = given c in
+    o ≡ completedIn (lent s) (s .args .slot) (s .args .ticket) (s .args .body .now) (slotAt (s .args .t1) (s .args .slot) .phase) → (o ≡ due s) × Stays o
+by-phase c row =
+    let s = given c in
+    met s (row ∙ sym (at-slot (lent s) (s .args .slot) (s .args .ticket) (s .args .body .now) (passed (c .before)) (c .if2 .left)))
 
--- behind 32
-same-ticket : (row : tie.Else3) → let slot = row .before .before .before .before .before .before .before .before in
-    eqb (start slot .args .ticket .0) (present slot) ≡ true
-same-ticket row =
-    let slot = row .before .before .before .before .before .before .before .before in
-    eq-eqb (start slot .args .ticket .0) (present slot) (omega (arith, row .if3 .left))
+-- the ticket that is given, and the slot's
+abbrev theirs : tie.After-phase → ℕ
+theirs c = given (slot c) .args .ticket .0
+
+abbrev ours : tie.After-phase → ℕ
+ours c = slotAt (given (slot c) .args .t1) (given (slot c) .args .slot) .ticket .0
+
+by-taking : (c : tie.Else3) (t : Taking) {o : Outcome} → let k = command (c .before) in let s = given (slot k) in let request = k .phase .given .0 .0 in
+    request .taking ≡ t → o ≡ completedRow (lent s) (s .args .slot) request (s .args .body .now) t → (o ≡ due s) × Stays o
+by-taking c t e row =
+    let k = command (c .before) in
+    let s = given (slot k) in
+    let same = eq-eqb (theirs k) (ours k) (omega (arith, c .if3 .left)) in
+    by-phase (slot k)
+    (rw (k .phase .given .1, same) (row ∙ ap (completedRow (lent s) (s .args .slot) (k .phase .given .0 .0) (s .args .body .now)) (sym e)))
+
+-- the slot of a command that is taken, and the body's bytes
+abbrev taken-slot : tie.After-enum-told → tie.Else2
+taken-slot c = slot (command (present c .before))
+
+abbrev size : tie.After-enum-told → ℕ
+size c = length (given (taken-slot c) .args .body .now)
+
+-- ---- the ways out
 
 returns : tie.Need-returns
 unfolding completed
 returns c =
     let stores = c .before .before in
-    kept Stays (still (stores .before .before .before .before)) (rw (c .ended .ensures, sym (stores .wrong-stores .ensures) ∙ c .before .if1 .taken))
+    met (start stores) (rw (c .ended .ensures, sym (stores .wrong-stores .ensures) ∙ c .before .if1 .taken))
 
 returns-2 : tie.Need-returns-2
 unfolding completed
 returns-2 c =
-    let stores = c .before .before .before in
-    kept Stays (still (stores .before .before .before .before))
-    (rw (c .ended2 .ensures, sym (stores .wrong-stores .ensures) ∙ c .before .before .if1 .left, le-ltb _ 2 (c .before .if2 .taken)))
+    let stores = c .before .before in
+    met (start (stores .before)) (rw (c .ended2 .ensures, passed stores, le-ltb _ 2 (c .before .if2 .taken)))
 
 returns-3 : tie.Need-returns-3
 returns-3 c =
-    let slot = c .before .before .before in
-    let s = start slot in
-    finish slot
+    let k = c .before .before .before in
+    let s = given k in
+    by-phase k
     (rw (c .ended3 .ensures)
     (not-process (λ (p : Phase). outcome no-command (lent s) ≡ completedIn (lent s) (s .args .slot) (s .args .ticket) (s .args .body .now) p) refl (λ a. refl)
     (λ r. refl) (λ r. refl) (slotAt (s .args .t1) (s .args .slot) .phase) (c .before .match .keys2)))
 
 returns-4 : tie.Need-returns-4
 returns-4 c =
-    let command = c .before .before .before .before .before .before in
-    let slot = command .before .before .before in
-    let other = ne-eqb (start slot .args .ticket .0) (present slot) (omega (arith, c .before .if3 .taken)) in
-    finish slot (rw (c .ended4 .ensures, command .phase .given .1, other))
+    let test = c .before in
+    let k = command (test .before) in
+    let other = ne-eqb (theirs k) (ours k) (omega (arith, test .if3 .taken)) in
+    by-phase (slot k) (rw (c .ended4 .ensures, k .phase .given .1, other))
 
 returns-5 : tie.Need-returns-5
-returns-5 c =
-    let row = c .before .before .before in
-    let command = row .before .before .before .before .before in
-    let slot = command .before .before .before in
-    finish slot (rw (c .ended5 .ensures, command .phase .given .1, same-ticket row, c .before .enum-told2 .given .1))
+returns-5 c = by-taking (c .before .before .before) Untaken (c .before .enum-told2 .given .1) (rw (c .ended5 .ensures))
 
 returns-6 : tie.Need-returns-6
 returns-6 c =
-    let row = c .before .before .before .before in
-    let command = row .before .before .before .before .before in
-    let slot = command .before .before .before in
-    let n = length (start slot .args .body .now) in
-    finish slot
-    (rw (c .ended6 .ensures, command .phase .given .1, same-ticket row, c .before .before .enum-told .given .1)
+    let taken = c .before .before in
+    by-taking (present taken) Taken (taken .enum-told .given .1)
+    (rw (c .ended6 .ensures)
     (⊎-elim
     (λ w. rw (lt-ltb _ _ (w .taken)))
-    (λ w. rw (le-ltb _ _ (w .0 .left), lt-ltb 4216 n (omega (arith, ltb-true _ n (w .1 .taken)))))
+    (λ w. rw (le-ltb _ _ (w .0 .left), lt-ltb 4216 (size taken) (omega (arith, ltb-true _ (size taken) (w .1 .taken)))))
     (c .before .if4 .came)))
 
-responded-requires : tie.Need-responded-requires
-responded-requires c κs =
+responded-in-requires : tie.Need-responded-in-requires
+responded-in-requires c κs =
     let body = c .before .before in
-    let slot = body .before .before .before .before .before .before .before .before .before .before .before .before in
-    let k = sizes (lent (start slot)) (passed slot) in
-    (k .0, k .1, search needs, omega (arith, ltb-false _ (length (start slot .args .body .now)) (body .if5 .left)))
+    let taken = body .before .before in
+    let numbered = taken-slot taken in
+    let k = sizes (lent (given numbered)) (passed (numbered .before)) in
+    (k .0, k .1, search needs, omega (arith, ltb-false _ (size taken) (body .if5 .left)))
 
 returns-7 : tie.Need-returns-7
-unfolding responded
 returns-7 c =
-    let call = c .before .before .before .before .before in
-    let body = call .before .before .before in
-    let row = body .before .before .before .before in
-    let command = row .before .before .before .before .before in
-    let slot = command .before .before .before in
-    let n = length (start slot .args .body .now) in
-    let most = le-ltb 4216 n (omega (arith, ltb-false _ n (body .if5 .left))) in
-    finish slot
-    (rw (c .ended7 .ensures, command .phase .given .1, same-ticket row, body .before .before .enum-told .given .1, le-ltb _ _ (body .before .if4 .left), most)
-    (ap (outcome 0) (call .responded .ensures)))
+    let answering = c .before .before .before .before .before in
+    let body = answering .before .before .before in
+    let taken = body .before .before in
+    let most = le-ltb 4216 (size taken) (omega (arith, ltb-false _ (size taken) (body .if5 .left))) in
+    by-taking (present taken) Taken (taken .enum-told .given .1)
+    (rw (c .ended7 .ensures, le-ltb _ _ (body .before .if4 .left), most) (ap (outcome 0) (answering .responded-in .ensures)))
 
 pub complete-spec : {M : Type 1} → statement M
 complete-spec =
     tie.close
     (tie.spec (λ c κs. search needs) (λ c κs. search needs) returns (λ c κs. search needs) returns-2 (λ c. search needs)
     (λ c. search needs) (λ c. search needs) (λ c κs. search needs) returns-3 (λ c κs. search needs) returns-4 (λ c. search needs)
-    (λ c. search needs) (λ c κs. search needs) returns-5 (λ c κs. search needs) returns-6 responded-requires (λ c κs. search needs)
+    (λ c. search needs) (λ c κs. search needs) returns-5 (λ c κs. search needs) returns-6 responded-in-requires (λ c κs. search needs)
     (λ c. search needs) (λ c. search needs) returns-7)

@@ -8,21 +8,25 @@ use Rattle.machine.specs.State.{slotAt, isIdle}
 use Rattle.receive_command.proofs.first_command.Statement.{statement}
 use Rattle.receive_command.proofs.first_command.Tie as tie
 
+abbrev start : tie.After-is-idle → tie.Start
+start c = c .before .before .before .before .before
+
 -- the phase that is asked is the slot's
-idle-slot : (k : tie.After-is-idle) → let a = k .before .before .before .before .before .args in k .is-idle .result ≡ isIdle (slotAt (a .endpoint) (a .slot) .phase)
-idle-slot k = k .is-idle .ensures ∙ ap isIdle (k .before .phase-of .ensures)
+idle-slot : (c : tie.After-is-idle) → let a = start c .args in not (c .is-idle .result) ≡ not (isIdle (slotAt (a .endpoint) (a .slot) .phase))
+idle-slot c = ap not (c .is-idle .ensures ∙ ap isIdle (c .before .phase-of .ensures))
 
 returns : tie.Need-returns
 unfolding firstCommand
 returns c =
-    rw (ap not (sym (idle-slot (c .before .before))) ∙ c .before .if1 .taken) (c .refused-busy .ensures _ _)
+    let busy = c .before in
+    rw (sym (idle-slot (busy .before)) ∙ busy .if1 .taken) (c .refused-busy .ensures _ _)
 
 returns-2 : tie.Need-returns-2
 unfolding firstCommand
 returns-2 c =
-    let call = c .before .before .before .before in
-    let test = call .before .before .before in
-    rw (ap not (sym (idle-slot (test .before))) ∙ test .if1 .left) (call .gathered .ensures)
+    let gathering = c .before .before .before .before in
+    let idle = gathering .before .before .before in
+    rw (sym (idle-slot (idle .before)) ∙ idle .if1 .left) (gathering .gathered-in .ensures)
 
 pub first-command-spec : {M : Type 1} → statement M
 first-command-spec =

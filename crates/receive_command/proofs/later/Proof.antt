@@ -26,38 +26,45 @@ held e v source tag {i} {a} h =
     let facts : PhaseFacts (slotAt e i .paused) (Receive a) = rw (k .gathers-it) at (facts-at i (k .slot-is) v) in
     (k .slot-is, facts .1)
 
-found-at : (f : tie.After-found) → (f .found .given .0 .0 ≤ 1) × (f .found .given .0 .1 .0 .length ≤ store-size)
-found-at f =
-    let holder = f .before .before in
-    let s = holder .before .before .before .before in
-    held (s .args .endpoint) (s .pre .2) (s .args .header .source) (s .args .header .tag) (sym (holder .holder .ensures) ∙ f .found .given .1)
+abbrev start : tie.After-holder → tie.Start
+start c = c .before .before .before .before
+
+abbrev asking : tie.After-found → tie.After-holder
+asking c = c .before .before
+
+found-at : (c : tie.After-found) → (c .found .given .0 .0 ≤ 1) × (c .found .given .0 .1 .0 .length ≤ store-size)
+found-at c =
+    let s = start (asking c) in
+    held (s .args .endpoint) (s .pre .2) (s .args .header .source) (s .args .header .tag) (sym (asking c .holder .ensures) ∙ c .found .given .1)
 
 returns : tie.Need-returns
 unfolding later
-returns c = rw (sym (c .before .before .before .holder .ensures) ∙ c .before .enum-told .given .1) (c .refused .ensures _ _)
+returns c =
+    let nowhere = c .before in
+    rw (sym (nowhere .before .before .holder .ensures) ∙ nowhere .enum-told .given .1) (c .refused .ensures _ _)
 
 join-refusal-requires : tie.Need-join-refusal-requires
 join-refusal-requires c κs = omega (arith, found-at (c .before) .1)
 
 later-at-requires : tie.Need-later-at-requires
 later-at-requires c κs =
-    let join = c .before .before in
-    let found = join .before .before in
-    let a = found .before .before .before .before .before .before .args in
+    let joining = c .before .before in
+    let found = joining .before .before in
+    let a = start (asking found) .args in
     let assembly = found .found .given .0 .1 .0 in (
       search needs,
       search needs,
       omega (arith, found-at found .0),
-      λ e. omega (arith, joins _ _ (assembly .sequence) (assembly .length) (length (a .payload .now)) (a .header) (sym (join .join-refusal .ensures) ∙ e) .fits),
+      λ e. omega (arith, joins _ _ (assembly .sequence) (assembly .length) (length (a .payload .now)) (a .header) (sym (joining .join-refusal .ensures) ∙ e) .fits),
     )
 
 returns-2 : tie.Need-returns-2
 unfolding later
 returns-2 c =
     let call = c .before .before .before .before in
-    let join = call .before .before .before in
-    let found = join .before .before in
-    call .later-at .ensures ∙ rw (join .join-refusal .ensures, sym (found .before .before .holder .ensures) ∙ found .found .given .1)
+    let joining = call .before .before .before in
+    let found = joining .before .before in
+    call .later-at .ensures ∙ rw (joining .join-refusal .ensures, sym (asking found .holder .ensures) ∙ found .found .given .1)
 
 pub later-spec : {M : Type 1} → statement M
 later-spec =

@@ -1,6 +1,6 @@
 -- `receive_command::later_at` meets its contract: 0 joins, any other number drops the slot.
 -- Assumes nothing.
-use mathlib.Core.Path.{_∙_}
+use mathlib.Core.Path.{_≡_, _∙_}
 use native.Mathlib.Omega.{arith}
 use borrow.Author.Needs.{needs}
 use borrow.Author.Tests.{eq-eqb, ne-eqb}
@@ -8,17 +8,24 @@ use Rattle.machine.specs.Receive.{laterAt}
 use Rattle.receive_command.proofs.later_at.Statement.{statement}
 use Rattle.receive_command.proofs.later_at.Tie as tie
 
-gathered-requires : tie.Need-gathered-requires
-gathered-requires c κs =
-    let test = c .before .before in
-    (search needs, search needs, search needs, test .before .before .before .before .pre .3 (omega (arith, test .if1 .taken)))
+abbrev start : tie.Then1 → tie.Start
+start c = c .before .before .before .before
+
+-- no refusal
+joins : (c : tie.Then1) → start c .args .refusal ≡ 0
+joins c = omega (arith, c .if1 .taken)
+
+gathered-in-requires : tie.Need-gathered-in-requires
+gathered-in-requires c κs =
+    let joining = c .before .before in
+    (search needs, search needs, search needs, start joining .pre .3 (joins joining))
 
 returns : tie.Need-returns
 unfolding laterAt
 returns c =
-    let call = c .before .before .before .before in
-    let test = call .before .before .before in
-    rw (eq-eqb (test .before .before .before .before .args .refusal) 0 (omega (arith, test .if1 .taken))) (call .gathered .ensures)
+    let gathering = c .before .before .before .before in
+    let joining = gathering .before .before .before in
+    rw (eq-eqb (start joining .args .refusal) 0 (joins joining)) (gathering .gathered-in .ensures)
 
 returns-2 : tie.Need-returns-2
 unfolding laterAt
@@ -27,4 +34,4 @@ returns-2 c = c .refused .ensures _ _ ∙ rw (c .before .dropped .ensures, ne-eq
 pub later-at-spec : {M : Type 1} → statement M
 later-at-spec =
     tie.close
-    (tie.spec gathered-requires (λ c. search needs) (λ c. search needs) returns (λ c κs. search needs) (λ c κs. search needs) returns-2)
+    (tie.spec gathered-in-requires (λ c. search needs) (λ c. search needs) returns (λ c κs. search needs) (λ c κs. search needs) returns-2)

@@ -8,15 +8,22 @@ use Rattle.slots_process.proofs.entered.Tie as tie
 
 returns : tie.Need-returns
 unfolding entered
-returns c =
-    let call = c .before .before .before .before in
-    let paused = call .before .before .before in
-    let slot = paused .before .before in
-    call .responded-at-once .ensures
-    ∙ rw (paused .paused-if .ensures, slot .with-slot .ensures, slot .before .processing .ensures, slot .before .before .before .request-of .ensures, paused .before .command-fault .ensures)
+returns c other =
+    let answering = c .before .before in
+    let pausing = answering .before .before in
+    let entering = pausing .before .before in
+    let requesting = entering .before .before .before in
+    answering .responded-at-once .ensures other
+    ∙ rw (
+      pausing .paused-if .ensures,
+      entering .with-slot .ensures,
+      entering .before .processing .ensures,
+      requesting .request-of .ensures,
+      pausing .before .command-fault .ensures,
+    )
 
 pub entered-spec : {M : Type 1} → statement M
 entered-spec =
     tie.close
     (tie.spec (λ c κs. search needs) (λ c. search needs) (λ c. search needs) (λ c κs. search needs) (λ c κs. search needs)
-    (λ c κs. search needs) (λ c κs. search needs) (λ c κs. search needs) (λ c. search needs) (λ c. search needs) returns)
+    (λ c κs. search needs) (λ c κs. search needs) (λ c κs. search needs) (λ c. search needs) returns)

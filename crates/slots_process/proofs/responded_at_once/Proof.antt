@@ -22,16 +22,17 @@ at-once w i r (Parameter byte bit) h = refl
 at-once w i r (Failure status) h = refl
 
 returns : tie.Need-returns
-returns c = rw (c .enum-told .given .1)
+returns c other = rw (c .enum-told .given .1)
 
 returns-2 : tie.Need-returns-2
-returns-2 c =
-    let call = c .before .before .before .before in
-    let told = call .before .before .before .before .before in
-    call .responded .ensures ∙ rw (call .before .before .before .before .fault-body .ensures) (at-once _ _ _ (told .before .before .before .args .fault) (told .match .keys2))
+returns-2 c other =
+    let answering = c .before .before in
+    let fixing = answering .before .before .before in
+    let failing = fixing .before in
+    answering .responded .ensures other
+    ∙ rw (fixing .fault-body .ensures) (at-once _ _ _ (failing .before .before .args .fault) (failing .match .keys2))
 
 pub responded-at-once-spec : {M : Type 1} → statement M
 responded-at-once-spec =
     tie.close
-    (tie.spec (λ c. search needs) returns (λ c κs. search needs) (λ c. search needs) (λ c κs. search needs) (λ c. search needs)
-    (λ c. search needs) returns-2)
+    (tie.spec (λ c. search needs) returns (λ c κs. search needs) (λ c. search needs) (λ c κs. search needs) (λ c. search needs) returns-2)
