@@ -22,7 +22,7 @@ use slots::ended;
 use slots::wrong_stores;
 use slots_process::responded;
 
-// The slot's store is chosen here, for the whole call.
+// `responded` in the slot's store, which is chosen here for the whole call.
 fn responded_in(
     endpoint: Endpoint,
     store0: &mut [u8],

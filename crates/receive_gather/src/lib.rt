@@ -1,4 +1,5 @@
-// Gathering a command in its slot: a packet's payload behind the bytes so far, and the command once it is whole.
+// Gathering a command in its slot: a packet's payload behind the bytes so far, and the command once it is whole. `store` is the slot's; what is
+// promised holds whatever the other one holds.
 ghost use mathlib.Core.Path.{_≡_};
 ghost use mathlib.Core.List.{List};
 ghost use Prim.Native.Nat.{ℕ, _+_, _≤_, _<_};
@@ -65,7 +66,7 @@ fn gathered(
     landed(endpoint, store, slot, assembly, header.eom)
 }
 
-// The slot's store is chosen here, for the whole call.
+// `gathered` in the slot's store, which is chosen here for the whole call.
 pub fn gathered_in(
     endpoint: Endpoint,
     store0: &mut [u8],

@@ -1,4 +1,4 @@
-// Entering Process, and the response that a slot then gets.
+// Entering Process, and the response that a slot then gets. `store` is the slot's; what is promised holds whatever the other one holds.
 ghost use mathlib.Core.Path.{_≡_};
 ghost use mathlib.Core.List.{List};
 ghost use Prim.Native.Nat.{ℕ, _+_, _<_, _≤_};
