@@ -62,12 +62,19 @@ passed : (c : tie.Else1) → wrongStores (lent (start (c .before))) ≡ false
 passed c = sym (c .before .wrong-stores .ensures) ∙ c .if1 .left
 
 -- what 40 and 30 leave
-at-slot : (w : World) (i : ℕ) (t : Ticket) (body : List ℕ) → wrongStores w ≡ false → i ≤ 1 → completed w i t body ≡ completedIn w i t body (slotAt (w .endpoint) i .phase)
+at-slot : (w : World) (i : ℕ) (t : Ticket) (body : List ℕ) → wrongStores w ≡ false → i ≤ 1
+    → completed w i t body ≡ completedIn w i t body (slotAt (w .endpoint) i .phase)
 unfolding completed
 at-slot w i t body s h = rw (s, lt-ltb i 2 (omega arith))
 
-by-phase : (c : tie.Else2) {o : Outcome} → let s = given c in
-    o ≡ completedIn (lent s) (s .args .slot) (s .args .ticket) (s .args .body .now) (slotAt (s .args .t1) (s .args .slot) .phase) → (o ≡ due s) × Stays o
+-- what is left of the table where the slot's phase decides
+abbrev rows : tie.Start → Phase → Outcome
+rows s p = completedIn (lent s) (s .args .slot) (s .args .ticket) (s .args .body .now) p
+
+abbrev phase-at : tie.Start → Phase
+phase-at s = slotAt (s .args .t1) (s .args .slot) .phase
+
+by-phase : (c : tie.Else2) {o : Outcome} → let s = given c in o ≡ rows s (phase-at s) → (o ≡ due s) × Stays o
 by-phase c row =
     let s = given c in
     met s (row ∙ sym (at-slot (lent s) (s .args .slot) (s .args .ticket) (s .args .body .now) (passed (c .before)) (c .if2 .left)))
@@ -79,14 +86,16 @@ theirs c = given (slot c) .args .ticket .0
 abbrev ours : tie.After-phase → ℕ
 ours c = slotAt (given (slot c) .args .t1) (given (slot c) .args .slot) .ticket .0
 
-by-taking : (c : tie.Else3) (t : Taking) {o : Outcome} → let k = command (c .before) in let s = given (slot k) in let request = k .phase .given .0 .0 in
-    request .taking ≡ t → o ≡ completedRow (lent s) (s .args .slot) request (s .args .body .now) t → (o ≡ due s) × Stays o
+-- and where its command is taken or not
+abbrev row-of : tie.After-phase → Taking → Outcome
+row-of c t = let s = given (slot c) in completedRow (lent s) (s .args .slot) (c .phase .given .0 .0) (s .args .body .now) t
+
+by-taking : (c : tie.Else3) (t : Taking) {o : Outcome} → let k = command (c .before) in
+    k .phase .given .0 .0 .taking ≡ t → o ≡ row-of k t → (o ≡ due (given (slot k))) × Stays o
 by-taking c t e row =
     let k = command (c .before) in
-    let s = given (slot k) in
     let same = eq-eqb (theirs k) (ours k) (omega (arith, c .if3 .left)) in
-    by-phase (slot k)
-    (rw (k .phase .given .1, same) (row ∙ ap (completedRow (lent s) (s .args .slot) (k .phase .given .0 .0) (s .args .body .now)) (sym e)))
+    by-phase (slot k) (rw (k .phase .given .1, same) (row ∙ ap (row-of k) (sym e)))
 
 -- the slot of a command that is taken, and the body's bytes
 abbrev taken-slot : tie.After-enum-told → tie.Else2
@@ -115,8 +124,7 @@ returns-3 c =
     let s = given k in
     by-phase k
     (rw (c .ended3 .ensures)
-    (not-process (λ (p : Phase). outcome no-command (lent s) ≡ completedIn (lent s) (s .args .slot) (s .args .ticket) (s .args .body .now) p) refl (λ a. refl)
-    (λ r. refl) (λ r. refl) (slotAt (s .args .t1) (s .args .slot) .phase) (c .before .match .keys2)))
+    (not-process (λ (p : Phase). outcome no-command (lent s) ≡ rows s p) refl (λ a. refl) (λ r. refl) (λ r. refl) (phase-at s) (c .before .match .keys2)))
 
 returns-4 : tie.Need-returns-4
 returns-4 c =

@@ -1,7 +1,7 @@
--- `receive_gather::landed` meets its contract: the message is the front of the slot's store, and each arm is what `joined_in` answered. One whose check is
--- right is long enough to hold a message header.
+-- `receive_gather::landed` meets its contract: the message is the front of the slot's store, and each arm is what `joined_in` answered. One
+-- whose check is right is long enough to hold a message header.
 -- Assumes nothing.
-use mathlib.Core.Path.{_≡_, sym, ap, _∙_}
+use mathlib.Core.Path.{sym, ap, _∙_}
 use native.Mathlib.Omega.{arith}
 use lib.ListN.{length-take}
 use borrow.Author.Needs.{needs}

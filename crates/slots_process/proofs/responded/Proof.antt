@@ -1,6 +1,5 @@
 -- `slots_process::responded` meets its contract: the response stands at the front of the slot's store, and the slot holds it.
 -- Assumes nothing.
-use mathlib.Core.Path.{_≡_}
 use borrow.Author.Needs.{needs}
 use Rattle.machine.specs.Process.{responded}
 use Rattle.slots.proofs.Placed.{found, replaced}
