@@ -1,16 +1,11 @@
 // Completing a command that was taken, and the timeout of one that is being gathered.
 ghost use mathlib.Core.Path.{_≡_};
-ghost use Prim.Native.Nat.{_+_, _≤_, _<_};
-ghost use lib.ListN.{length};
 ghost use Rattle.machine.specs.State.{world, outcome};
 ghost use Rattle.machine.specs.Valid.{Valid};
-ghost use Rattle.machine.specs.Wire.{store-size};
-ghost use Rattle.machine.specs.Process.{responded as Process·responded};
 ghost use Rattle.machine.specs.Finish.{completed, isReceive, timedOut};
 use machine::Done;
 use machine::Endpoint;
 use machine::Phase;
-use machine::Request;
 use machine::Taking;
 use machine::Ticket;
 use machine::answers;
@@ -21,25 +16,6 @@ use slots::dropped;
 use slots::ended;
 use slots::wrong_stores;
 use slots_process::responded;
-
-// `responded` in the slot's store, which is chosen here for the whole call.
-fn responded_in(
-    endpoint: Endpoint,
-    store0: &mut [u8],
-    store1: &mut [u8],
-    slot: usize,
-    request: Request,
-    body: &[u8],
-) -> Endpoint
-    requires { ⌜ (length (now store0) ≡ store-size) × (length (now store1) ≡ store-size) × (slot < 2) × (length (now body) + 8 ≤ store-size) ⌝ }
-    ensures { λ r. ⌜ world r (now (store0 .exit)) (now (store1 .exit)) ≡ Process·responded (world endpoint (now (store0 .entry)) (now (store1 .entry))) slot request (now (body .entry)) ⌝ }
-{
-    if slot == 0 {
-        responded(endpoint, store0, slot, request, body)
-    } else {
-        responded(endpoint, store1, slot, request, body)
-    }
-}
 
 // Writes the response with this body, from its status on, to the front of the slot's store. 40 a store of another length; 30 slot
 // above 1; 31 not in Process, or its response is there; 32 ticket not the slot's present one; 34 not taken; 35 body not 4 to 4,216
@@ -78,10 +54,17 @@ pub fn complete(
     if body.len() < SHORTEST_BODY || body.len() > LONGEST_BODY {
         return ended(answers::WRONG_BODY_SIZE, endpoint);
     }
-    ended(
-        answers::DONE,
-        responded_in(endpoint, store0, store1, slot, request, body),
-    )
+    if slot == 0 {
+        ended(
+            answers::DONE,
+            responded(endpoint, store0, slot, request, body),
+        )
+    } else {
+        ended(
+            answers::DONE,
+            responded(endpoint, store1, slot, request, body),
+        )
+    }
 }
 
 fn is_receive(phase: Phase) -> bool

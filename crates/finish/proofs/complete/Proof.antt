@@ -10,9 +10,10 @@ use native.Mathlib.Omega.{arith}
 use lib.ListN.{length}
 use borrow.Author.Needs.{needs}
 use borrow.Author.Tests.{lt-ltb, le-ltb, eq-eqb, ne-eqb, ltb-true, ltb-false}
-use Rattle.machine.specs.Answers.{no-command}
+use Rattle.machine.specs.Answers.{done, no-command}
 use Rattle.machine.specs.State.{World, Outcome, outcome, world, slotAt}
 use Rattle.machine.specs.Wire.{wrongStores}
+use Rattle.machine.specs.Process.{responded}
 use Rattle.machine.specs.Finish.{completedRow, completedIn, completed}
 use Rattle.machine.specs.declared.Ticket.{Ticket}
 use Rattle.machine.specs.declared.Phase.{Phase}
@@ -97,12 +98,25 @@ by-taking c t e row =
     let same = eq-eqb (theirs k) (ours k) (omega (arith, c .if3 .left)) in
     by-phase (slot k) (rw (k .phase .given .1, same) (row ∙ ap (row-of k) (sym e)))
 
--- the slot of a command that is taken, and the body's bytes
-abbrev taken-slot : tie.After-enum-told → tie.Else2
-taken-slot c = slot (command (present c .before))
+-- the command that is taken, and the body's bytes
+abbrev taken : tie.After-enum-told → tie.After-phase
+taken c = command (present c .before)
 
 abbrev size : tie.After-enum-told → ℕ
-size c = length (given (taken-slot c) .args .body .now)
+size c = length (given (slot (taken c)) .args .body .now)
+
+-- behind 35
+abbrev fitting : tie.Else5 → tie.After-phase
+fitting c = taken (c .before .before)
+
+fits : (c : tie.Else5) → size (c .before .before) ≤ 4216
+fits c = let n = size (c .before .before) in omega (arith, ltb-false _ n (c .if5 .left))
+
+by-body : (c : tie.Else5) {o : Outcome} → let k = fitting c in let s = given (slot k) in
+    o ≡ outcome done (responded (lent s) (s .args .slot) (k .phase .given .0 .0) (s .args .body .now)) → (o ≡ due s) × Stays o
+by-body c row =
+    let k = c .before .before in
+    by-taking (present k) Taken (k .enum-told .given .1) (rw (le-ltb _ _ (c .before .if4 .left), le-ltb 4216 (size k) (fits c)) row)
 
 -- ---- the ways out
 
@@ -138,35 +152,46 @@ returns-5 c = by-taking (c .before .before .before) Untaken (c .before .enum-tol
 
 returns-6 : tie.Need-returns-6
 returns-6 c =
-    let taken = c .before .before in
-    by-taking (present taken) Taken (taken .enum-told .given .1)
+    let k = c .before .before in
+    by-taking (present k) Taken (k .enum-told .given .1)
     (rw (c .ended6 .ensures)
     (⊎-elim
     (λ w. rw (lt-ltb _ _ (w .taken)))
-    (λ w. rw (le-ltb _ _ (w .0 .left), lt-ltb 4216 (size taken) (omega (arith, ltb-true _ (size taken) (w .1 .taken)))))
+    (λ w. rw (le-ltb _ _ (w .0 .left), lt-ltb 4216 (size k) (omega (arith, ltb-true _ (size k) (w .1 .taken)))))
     (c .before .if4 .came)))
 
-responded-in-requires : tie.Need-responded-in-requires
-responded-in-requires c κs =
+responded-requires : tie.Need-responded-requires
+responded-requires c κs =
     let body = c .before .before in
-    let taken = body .before .before in
-    let numbered = taken-slot taken in
-    let k = sizes (lent (given numbered)) (passed (numbered .before)) in
-    (k .0, k .1, search needs, omega (arith, ltb-false _ (size taken) (body .if5 .left)))
+    let numbered = slot (fitting body) in
+    (sizes (lent (given numbered)) (passed (numbered .before)) .0, search needs, omega (arith, fits body))
+
+responded-requires-2 : tie.Need-responded-requires-2
+responded-requires-2 c κs =
+    let body = c .before .before in
+    let numbered = slot (fitting body) in
+    (sizes (lent (given numbered)) (passed (numbered .before)) .1, search needs, omega (arith, fits body))
 
 returns-7 : tie.Need-returns-7
 returns-7 c =
-    let answering = c .before .before .before .before .before in
-    let body = answering .before .before .before in
-    let taken = body .before .before in
-    let most = le-ltb 4216 (size taken) (omega (arith, ltb-false _ (size taken) (body .if5 .left))) in
-    by-taking (present taken) Taken (taken .enum-told .given .1)
-    (rw (c .ended7 .ensures, le-ltb _ _ (body .before .if4 .left), most) (ap (outcome 0) (answering .responded-in .ensures)))
+    let answering = c .before .before .before in
+    let chosen = answering .before .before in
+    let other = given (slot (fitting (chosen .before))) .args .store1 .now in
+    by-body (chosen .before)
+    (rw (c .ended7 .ensures) (ap (outcome 0) (rw (eq-eqb _ 0 (chosen .if6 .taken)) at (answering .responded .ensures other))))
+
+returns-8 : tie.Need-returns-8
+returns-8 c =
+    let answering = c .before .before .before in
+    let chosen = answering .before .before in
+    let other = given (slot (fitting (chosen .before))) .args .store0 .now in
+    by-body (chosen .before)
+    (rw (c .ended8 .ensures) (ap (outcome 0) (rw (ne-eqb _ 0 (chosen .if6 .left)) at (answering .responded2 .ensures other))))
 
 pub complete-spec : {M : Type 1} → statement M
 complete-spec =
     tie.close
     (tie.spec (λ c κs. search needs) (λ c κs. search needs) returns (λ c κs. search needs) returns-2 (λ c. search needs)
     (λ c. search needs) (λ c. search needs) (λ c κs. search needs) returns-3 (λ c κs. search needs) returns-4 (λ c. search needs)
-    (λ c. search needs) (λ c κs. search needs) returns-5 (λ c κs. search needs) returns-6 responded-in-requires (λ c κs. search needs)
-    (λ c. search needs) (λ c. search needs) returns-7)
+    (λ c. search needs) (λ c κs. search needs) returns-5 (λ c κs. search needs) returns-6 responded-requires (λ c κs. search needs)
+    responded-requires-2 (λ c κs. search needs) (λ c. search needs) returns-7 (λ c. search needs) returns-8)
