@@ -164,13 +164,15 @@ responded-requires : tie.Need-responded-requires
 responded-requires c κs =
     let body = c .before .before in
     let numbered = slot (fitting body) in
-    (sizes (lent (given numbered)) (passed (numbered .before)) .0, search needs, omega (arith, fits body))
+    let stores = sizes (lent (given numbered)) (passed (numbered .before)) in
+    (search (needs, stores), search needs, omega (arith, fits body))
 
 responded-requires-2 : tie.Need-responded-requires-2
 responded-requires-2 c κs =
     let body = c .before .before in
     let numbered = slot (fitting body) in
-    (sizes (lent (given numbered)) (passed (numbered .before)) .1, search needs, omega (arith, fits body))
+    let stores = sizes (lent (given numbered)) (passed (numbered .before)) in
+    (search (needs, stores), search needs, omega (arith, fits body))
 
 returns-7 : tie.Need-returns-7
 returns-7 c =
