@@ -36,7 +36,7 @@ phased i r p a t (Transmit x) = t x
 abbrev pub unpausedIdle : Slot → Bool
 unpausedIdle s = not (isIdle (s .phase) && s .paused)
 
--- a command is gathered in whole units, and fits its store
+-- a command that is being gathered has a whole unit at least, and fits its store
 abbrev pub gatheredFits : Phase → Bool
 gatheredFits = phased true (λ a. between unit store-size (a .length)) (λ r. true) (λ r. true) (λ r. true)
 

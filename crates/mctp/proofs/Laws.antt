@@ -6,7 +6,7 @@ use native.Mathlib.Numerals.{add-one}
 use native.Mathlib.Omega.{arith}
 use mathlib.Core.Path.{_≡_, refl, sym}
 use mathlib.Core.Logic.{_↔_}
-use mathlib.Core.Bool.{Bool, true, false, not}
+use mathlib.Core.Bool.{Bool, true, false, not, Bool·beq}
 use mathlib.Core.List.{List, [], _∷_, _++_}
 use lib.Dec.{eqb, leb, ltb, lit<}
 use lib.ListN.{length, take, length-take, length-drop}
@@ -19,6 +19,13 @@ use Rattle.mctp.specs.Cut.{packets, payload, packet}
 use Rattle.mctp.specs.declared.Header.{Header}
 use Rattle.mctp.specs.declared.Route.{Route}
 use Rattle.mctp.specs.declared.Read.the-variants.{Refused, Packet}
+
+-- the code's test on two bools
+pub same-beq : (a b : Bool) → same a b ≡ Bool·beq a b
+same-beq true true = refl
+same-beq true false = refl
+same-beq false true = refl
+same-beq false false = refl
 
 -- ---- how many packets
 

@@ -1,5 +1,5 @@
--- Packets gathered into a message: the rules of document 01's "Receiving" that are about packets alone. What a message must be, which
--- slot it goes to and which flags a refusal sets are said in `machine`.
+-- Packets gathered into a message: the rules of document 01's "Receiving" that are about packets alone. What a message must be is said in `opening`,
+-- which slot it goes to and which flags a refusal sets in `machine`.
 -- Assumes nothing.
 use Prim.Native.Nat.{ℕ, _+_, _%_}
 use mathlib.Core.Bool.{Bool, not, _&&_}

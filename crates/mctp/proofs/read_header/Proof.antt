@@ -1,8 +1,8 @@
 -- `mctp::read_header` meets its contract: each way out has the tests that lead to its row of `readHeader`.
 -- Assumes nothing.
 use Prim.Native.Nat.{_+_, _%_, _≤_, _<_}
-use mathlib.Core.Path.{_≡_, refl}
-use mathlib.Core.Bool.{Bool, true, false, not, Bool·beq}
+use mathlib.Core.Path.{_≡_}
+use mathlib.Core.Bool.{true, not}
 use native.Mathlib.Omega.{arith}
 use lib.ListN.{length}
 use borrow.Author.Needs.{needs}
@@ -10,16 +10,9 @@ use borrow.Author.Tests.{lt-ltb, le-ltb, eq-eqb, ne-eqb}
 use Rattle.lent.specs.Bytes.{byteAt, isSet}
 use Rattle.mctp.specs.Header.{same, readHeader, readSays, headerNumbers}
 use Rattle.mctp.specs.declared.Read.{Read}
-use Rattle.mctp.proofs.Laws.{header-numbers}
+use Rattle.mctp.proofs.Laws.{same-beq, header-numbers}
 use Rattle.mctp.proofs.read_header.Statement.{statement}
 use Rattle.mctp.proofs.read_header.Tie as tie
-
--- the code's test on two bools
-same-beq : (a b : Bool) → same a b ≡ Bool·beq a b
-same-beq true true = refl
-same-beq true false = refl
-same-beq false true = refl
-same-beq false false = refl
 
 -- points of the code: the start; behind 11; behind 12
 abbrev start : tie.Else2 → tie.Start

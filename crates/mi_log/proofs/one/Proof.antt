@@ -14,23 +14,30 @@ use Rattle.mi_log.proofs.one.Tie as tie
 size : (n : ℕ) → 3 + n - 3 ≡ n
 size n = omega arith
 
+-- where the record was done, and where the function starts
+abbrev recorded : tie.After-struct-known2 → tie.After-printed
+recorded c = c .before .before .before .before .before .before .before .before .before
+
+abbrev start : tie.After-printed-arg4 → tie.Start
+start c = c .before .before .before .before .before .before .before .before .before
+
 printed-requires : tie.Need-printed-requires
 printed-requires c κs =
-    let s = c .before .before .before .before .before .before .before .before .before in
+    let s = start c in
     let a = s .args in
     let part : length (take (3 + a .n - 3) (drop 3 (a .input .now))) ≡ a .n = simp (length-take, length-drop) (omega (arith, s .pre .2)) in
     (s .pre .0 .within .session-valid, rw part (s .pre .1), s .pre .0 .fits)
 
 add-put : tie.Need-add-t23
 add-put c =
-    let p = c .before .before .before .before .before .before .before .before .before .printed in
-    let s = c .before .before .before .before .before .before .before .before .before .before .before .before .before .before .before .before .before .before .before in
+    let p = recorded c .printed in
+    let s = start (recorded c .before) in
     record { fits = omega (arith, p .ensures .1 .0, s .pre .0 .fits, s .pre .0 .within .small) }
 
 returns : tie.Need-returns
 returns c =
-    let p = c .before .before .before .before .before .before .before .before .before .printed in
-    let s = c .before .before .before .before .before .before .before .before .before .before .before .before .before .before .before .before .before .before .before in
+    let p = recorded c .printed in
+    let s = start (recorded c .before) in
     let a = s .args in (
       record-done (held (a .r) (a .input .now) (a .out .now) (a .store0 .now) (a .store1 .now)) (a .n) _ (rw (size (a .n)) at (p .ensures .0)),
       record {

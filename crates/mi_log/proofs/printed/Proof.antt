@@ -7,11 +7,17 @@ use Rattle.mi_log.proofs.Places.{printed-told}
 use Rattle.mi_log.proofs.printed.Statement.{statement}
 use Rattle.mi_log.proofs.printed.Tie as tie
 
+-- where the record was done, and where the function starts
+abbrev recorded : tie.After-slice-known6 → tie.After-record
+recorded c = c .before .before .before .before .before .before
+
+abbrev start : tie.After-record → tie.Start
+start r = r .before .before .before .before .before .before .before .before
+
 returns : tie.Need-returns
 returns c =
-    let r = c .before .before .before .before .before .before in
-    let t = r .«record» .ensures in
-    let a = r .before .before .before .before .before .before .before .before .args in
+    let t = recorded c .«record» .ensures in
+    let a = start (recorded c) .args in
     (printed-told (a .put) (a .out .now) _ t, (omega (arith, t .length-told, t .short), t .still-valid))
 
 pub printed-spec : {M : Type 1} → statement M

@@ -13,11 +13,15 @@ use Rattle.mi_log.proofs.Places.{by-head, input-is, roomy-end, within-a
 use Rattle.mi_log.proofs.turn.Statement.{statement}
 use Rattle.mi_log.proofs.turn.Tie as tie
 
+-- where the function starts
+abbrev start : tie.After-read-head → tie.Start
+start rd = rd .before .before .before .before .before .before
+
 one-requires : tie.Need-one-requires
 one-requires c κs =
     let h = c .before .before .before .before in
     let rd = h .before .before in
-    let s = rd .before .before .before .before .before .before in
+    let s = start rd in
     let a = s .args in
     let facts = rw (sym (rd .read-head .ensures) ∙ h .head .given .1) at (whole (unread (a .r) (a .buf .now))) in
     (roomy-end (s .pre), facts .0, facts .1, simp (length-take, length-drop) (omega arith))
@@ -27,7 +31,7 @@ returns c =
     let b = c .before .before in
     let t = b .before .before in
     let rd = t .before .before in
-    let s = rd .before .before .before .before .before .before in
+    let s = start rd in
     let a = s .args in
     let input = unread (a .r) (a .buf .now) in
     let h = held (a .r) input (a .out .now) (a .store0 .now) (a .store1 .now) in
@@ -41,7 +45,7 @@ returns-2 c =
     let b = c .before .before in
     let t = b .before .before in
     let rd = t .before .before in
-    let s = rd .before .before .before .before .before .before in
+    let s = start rd in
     let a = s .args in
     let input = unread (a .r) (a .buf .now) in
     let h = held (a .r) input (a .out .now) (a .store0 .now) (a .store1 .now) in
@@ -55,7 +59,7 @@ returns-3 c =
     let o = c .before .before .before .before .before .before in
     let k = o .before .before .before .before .before in
     let rd = k .before .before in
-    let s = rd .before .before .before .before .before .before in
+    let s = start rd in
     let a = s .args in
     let input = unread (a .r) (a .buf .now) in
     let h = held (a .r) input (a .out .now) (a .store0 .now) (a .store1 .now) in (

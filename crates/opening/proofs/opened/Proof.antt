@@ -14,6 +14,7 @@ use Rattle.lent.specs.Choice.{if_then_else_}
 use Rattle.lent.specs.Bytes.{byteAt}
 use Rattle.mctp.specs.Header.{same}
 use Rattle.mctp.specs.Gather.{isCut}
+use Rattle.mctp.proofs.Laws.{same-beq}
 use Rattle.mctp.specs.declared.Header.{Header}
 use Rattle.nvme_mi.specs.Message.{messageHeader}
 use Rattle.nvme_mi.specs.Check.{checkRight}
@@ -21,13 +22,6 @@ use Rattle.opening.specs.Opening.{not-twelve, check-wrong, opened}
 use Rattle.opening.specs.declared.First.the-variants.{Refused, Control}
 use Rattle.opening.proofs.opened.Statement.{statement}
 use Rattle.opening.proofs.opened.Tie as tie
-
--- the code's test on two bools
-same-beq : (a b : Bool) → same a b ≡ Bool·beq a b
-same-beq true true = refl
-same-beq true false = refl
-same-beq false true = refl
-same-beq false false = refl
 
 full-unit : (unit : ℕ) (h : Header) (n : ℕ) → isCut unit h n ≡ false → h .eom ≡ false → n ≡ unit
 full-unit unit h n c e = eqb-true n unit (not-false (eqb n unit) (rw e at c))
