@@ -32,7 +32,10 @@ class Event:
     ticket, taken_at   what a take gave or a complete used, and the record of its take
     message            a whole message whose check is wrong
     at_once            the body that answered a command on entering Process
+    eid                the endpoint's own; not_taken: what is said of a ticket that no take gave
     """
+
+    eid, not_taken = 8, "since none was taken there"
 
     def __init__(self, record, line, before):
         self.record, self.line, self.before, self.after = record, line, before, before
@@ -120,7 +123,7 @@ class Follower:
             event.named = gathering
         event.slots = only(event.named)
         if event.expected in WHOLE:
-            WHOLE[event.expected](self, event)
+            getattr(self, WHOLE[event.expected])(event)
 
     def entered(self, event):
         """A command entered Process; where a test failed, its response is there already."""
@@ -174,8 +177,8 @@ class Follower:
         event.replaced, self.waiting = self.waiting, None
 
 
-# What to look at when a message is whole, by the answer
-WHOLE = {"1": Follower.entered, "2": Follower.control, "19": Follower.wrong_check}
+# What to look at when a message is whole: a method, by the answer
+WHOLE = {"1": "entered", "2": "control", "19": "wrong_check"}
 
 DETAILS = {PACKET: Follower.packet, POLL: Follower.poll, TIMEOUT: Follower.on_slot, TAKE: Follower.take,
            COMPLETE: Follower.on_slot, RESET: Follower.reset}

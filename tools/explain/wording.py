@@ -134,7 +134,7 @@ def completed_words(event, plain):
 
 
 def ticket_words(event):
-    where = f"taken at record {event.taken_at}" if event.taken_at else "since none was taken there"
+    where = f"taken at record {event.taken_at}" if event.taken_at else event.not_taken
     return f"it used ticket {number(event.ticket)}, {where}; the slot's present one is {number(event.after.counts[event.named])}"
 
 
@@ -217,7 +217,7 @@ GROUNDS = {
     10: lambda event: f"the packet has {count(len(event.body), 'byte')}, fewer than 5",
     11: lambda event: f"the packet has {count(len(event.body), 'byte')}, more than 68",
     12: lambda event: f"the version is {event.fields.version} and not 1",
-    13: lambda event: f"the destination is EID {event.fields.destination} and not ours, 8",
+    13: lambda event: f"the destination is EID {event.fields.destination} and not ours, {event.eid}",
     15: ground_shape,
     16: lambda event: f"EOM 0, and the payload is {count(len(event.payload), 'byte')} and not {PAYLOAD}",
     17: lambda event: f"EOM 1, and the payload is {count(len(event.payload), 'byte')}, below 8",

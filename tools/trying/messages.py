@@ -1,0 +1,129 @@
+"""Commands and control primitives: the options of their lines, and the packets that carry them."""
+from collections import namedtuple
+
+from records import FULL, command, control, damaged, packet
+from second.wire import ABORT, ADMIN, GET_STATE, MI, PAUSE, PCIE, RESUME
+
+from .values import PATTERNS, LineError, hex_of, number_of
+
+KINDS = {"mi": MI, "admin": ADMIN, "pcie": PCIE}
+PRIMITIVES = {"pause": PAUSE, "resume": RESUME, "abort": ABORT, "get-state": GET_STATE}
+LONGEST_COMMAND = 8192
+
+# An option: what it is given (name, least, greatest), and what it means
+Option = namedtuple("Option", "given meaning")
+
+
+def option(meaning, *given):
+    return Option(given, meaning)
+
+
+# What a packet carries; both kinds of lines have these
+PACKET_OPTIONS = {
+    "from": option("source EID (9 if not given)", ("an EID", 0, 255)),
+    "dest": option("destination EID (the endpoint's own if not given)", ("an EID", 0, 255)),
+    "mtag": option("message tag of the packets", ("a message tag", 0, 7)),
+    "version": option("version in the packets' header (1 if not given)", ("a version", 0, 15)),
+    "to": option("TO (1 if not given)", ("TO", 0, 1)),
+    "seq": option("sequence of the first packet that is sent; later ones count on", ("a sequence", 0, 3)),
+    "only": option("no more than the first K packets", ("a number of packets", 1, LONGEST_COMMAND)),
+    "skip": option("without the first K packets", ("a number of packets", 1, LONGEST_COMMAND)),
+    "no-som": option("SOM 0 in the first packet"),
+    "no-eom": option("EOM 0 in the last packet"),
+    "bad-check": option("a wrong integrity check"),
+}
+MESSAGE_OPTIONS = {
+    "slot": option("the command slot, CSI (0 if not given)", ("a command slot", 0, 1)),
+    "ciap": option("CIAP 1"),
+    "meb": option("MEB 1"),
+}
+COMMAND_OPTIONS = {
+    **MESSAGE_OPTIONS,
+    "mi": option("an MI command of so many bytes, its check included", ("a length", 8, LONGEST_COMMAND)),
+    "admin": option("an Admin command, the same", ("a length", 8, LONGEST_COMMAND)),
+    "pcie": option("a PCIe command, the same", ("a length", 8, LONGEST_COMMAND)),
+    "nmimt": option("a command of any NMIMT: the NMIMT, the length", ("an NMIMT", 1, 15), ("a length", 8, LONGEST_COMMAND)),
+    "opcode": option("the byte behind the header", ("an opcode", 0, 255)),
+    "fill": option("zeros, ones, rising or hex bytes, which fill the rest (zeros if not given)"),
+    "tag": option("message tag, as mtag (1 if not given)", ("a message tag", 0, 7)),
+    "ror": option("ROR 1: a response and no request"),
+    **PACKET_OPTIONS,
+}
+CONTROL_OPTIONS = {
+    **MESSAGE_OPTIONS,
+    "tag": option("TAG of the control primitive (0 if not given)", ("a TAG", 0, 255)),
+    "cpsp": option("CPSP", ("a CPSP", 0, 0xFFFF)),
+    "clear": option("CPSP bit 0 set: Get State clears the flags after reporting"),
+    "ror": option("ROR 1: a response and no request"),
+    **PACKET_OPTIONS,
+    "mtag": option("message tag of the packet (2 if not given)", ("a message tag", 0, 7)),
+}
+
+
+def read_options(words, table):
+    """The options of a line: name to the values that it was given."""
+    found = {}
+    while words:
+        name = words.next("an option")
+        if name not in table:
+            raise LineError(f"expected one of {', '.join(table)}, and there is {name!r}")
+        if name in found:
+            raise LineError(f"expected {name} once, and it is there twice")
+        if name == "fill":
+            found[name] = filling(words.next("zeros, ones, rising or hex bytes"))
+        else:
+            values = [words.number(*given) for given in table[name].given]
+            found[name] = values[0] if len(values) == 1 else values or True
+    return found
+
+
+def filling(word):
+    return PATTERNS[word](256) if word in PATTERNS else hex_of(word)
+
+
+def read_command(words):
+    """The packets of a whole command, as the options want them."""
+    found = read_options(words, COMMAND_OPTIONS)
+    kinds = [name for name in (*KINDS, "nmimt") if name in found]
+    if len(kinds) != 1:
+        raise LineError("expected one of mi, admin, pcie and nmimt with a length, as in: command slot 0 mi 20")
+    if "tag" in found and "mtag" in found:
+        raise LineError("expected tag or mtag, and not both: in a command they are the same")
+    kind, length = found["nmimt"] if kinds == ["nmimt"] else (KINDS[kinds[0]], found[kinds[0]])
+    fill = found.get("fill", b"\0")
+    if "opcode" in found:
+        fill = bytes((found["opcode"],)) + (fill * length)[:max(length - 9, 0)]
+    message = command(length, found.get("slot", 0), kind, "ciap" in found, "meb" in found, "ror" in found, fill)
+    return cut(message, found, found.get("tag", found.get("mtag", 1)))
+
+
+def read_control(words):
+    """The packet of a control primitive, as the options want it."""
+    name = words.next(f"{', '.join(PRIMITIVES)} or an opcode")
+    opcode = PRIMITIVES.get(name, number_of(name))
+    if opcode is None or opcode > 255:
+        raise LineError(f"expected {', '.join(PRIMITIVES)} or an opcode, 0 to 255, and there is {name!r}")
+    found = read_options(words, CONTROL_OPTIONS)
+    csi = ("ror" in found) << 7 | found.get("slot", 0)
+    message = control(opcode, csi, found.get("tag", 0), found.get("cpsp", 0) | ("clear" in found), "ciap" in found, "meb" in found)
+    return cut(message, found, found.get("mtag", 2))
+
+
+def cut(message, found, tag):
+    """A function from the endpoint's EID to the packets of the message, as records of a log."""
+    if "bad-check" in found:
+        message = damaged(message)
+    starts = range(0, len(message), FULL)
+    chosen = list(enumerate(starts))[:found.get("only")][found.get("skip", 0):]
+    if not chosen:
+        raise LineError(f"expected packets to send: the message has {len(starts)}, and only and skip leave none")
+    first = found.get("seq", chosen[0][0])
+
+    def packets(eid):
+        return [packet(message[start:start + FULL], som=int(place == 0 and "no-som" not in found),
+                       eom=int(place == len(starts) - 1 and "no-eom" not in found), sequence=first + place - chosen[0][0],
+                       source=found.get("from", 9), tag=tag, version=found.get("version", 1), destination=found.get("dest", eid),
+                       to=found.get("to", 1))
+                for place, start in chosen]
+
+    return packets

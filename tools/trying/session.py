@@ -1,0 +1,191 @@
+"""Lines, one by one: the calls that they ask for, the answers in words, and what was expected."""
+from explain.wording import slots_words
+from second import calls
+
+from .program import Trouble
+from .telling import About, event_lines, look_lines, read_lines, response_lines, setup_lines, stores_lines
+from .values import LineError
+from .watching import KINDS, Call, Joiner, Watcher
+from .words import STATES, read_line
+
+LOOK = bytes((calls.LOOK, 0, 0))
+INDENT = " " * 8
+AT_ENDS = 2                 # calls that are told at each end of a long row
+
+
+class Unexpected(Exception):
+    """An expectation that does not hold."""
+
+
+class Quit(Exception):
+    """The user wants to end."""
+
+
+class Session:
+    """An endpoint under trial.
+
+    answers   the answers of the last line that called, as numbers
+    line      what the program printed for its last call
+    body      the body of the last response or control reply that was whole
+    """
+
+    def __init__(self, program, write, raw=False, save=None):
+        self.program, self.write, self.raw, self.save = program, write, raw, save
+        self.number, self.answers, self.line, self.body = 0, [], None, None
+        self.lent, self.joiner = (4224, 4224), Joiner()
+        self.watcher = Watcher(self.printed(LOOK))
+        self.shown = self.slots_line()
+
+    @property
+    def eid(self):
+        return self.watcher.endpoint.eid
+
+    def ticket(self, slot):
+        """The ticket last taken there, else 0."""
+        return self.watcher.given.get(slot, 0)
+
+    # A line
+
+    def run(self, text):
+        """Does what a line of the user says."""
+        act = read_line(text)
+        if act is not None:
+            act(self)
+
+    def call(self, *records):
+        """Makes calls, and tells them."""
+        self.row(iter(records))
+
+    def polls(self, record):
+        """Polls until no packet comes."""
+        def more():
+            yield record
+            while self.answers[-1] == 1:
+                yield record
+        self.row(more())
+
+    def row(self, records):
+        self.answers, told, first = [], [], self.number + 1
+        try:
+            for record in records:
+                told.append(self.one(record))
+        finally:
+            self.tell(first, told)
+            self.tell_slots()
+
+    def one(self, record):
+        """Makes a call; its lines."""
+        call = Call(record[0], record[3:])
+        before = self.watcher.state
+        self.number += 1
+        self.line = self.printed(record)
+        if self.line == "bad":
+            self.answers.append(None)
+            raise Trouble(f"record {self.number}: the program printed bad and ended: the record is none that it has")
+        if call.tag in KINDS:
+            return self.event(call, before)
+        return self.other(call)
+
+    def event(self, call, before):
+        event = self.watcher.event(self.number, call, self.line, self.printed(LOOK))
+        self.answers.append(event.answer)
+        buffer = int.from_bytes(call.body, "little") if call.tag == calls.POLL else 0
+        lines = event_lines(event, About(self.lent, buffer), before, self.watcher.state)
+        if event.sent:
+            lines += self.sent(event)
+        if self.line.endswith(" touched"):
+            lines.append("!! bytes of the buffer behind the packet were touched")
+        return lines
+
+    def sent(self, event):
+        """A response that is whole with this packet."""
+        whole = self.joiner.joined(event.sent)
+        if whole is None:
+            return []
+        message, packets = whole
+        self.body = message[4:-4]
+        return [] if event.primitive else [f"   {line}" for line in response_lines(message, packets)]
+
+    def other(self, call):
+        """A call that no log has."""
+        words = self.line.split(" ")
+        self.answers.append(int(words[0]) if words[0].isdigit() else None)
+        if call.tag != calls.LOOK:
+            self.watcher.look_at(self.printed(LOOK))
+        if call.tag == calls.SETUP:
+            self.watcher.forget()
+            return setup_lines(call.body[0], self.line, self.watcher.state)
+        if call.tag == calls.STORES:
+            self.lent = calls.TWO_LENGTHS.unpack(call.body)
+            return stores_lines(self.lent, self.line)
+        if call.tag == calls.READ:
+            return read_lines(calls.NUMBER.unpack(call.body)[0], bytes.fromhex(words[-1]) if words[-1] != "-" else b"")
+        return [f"record with tag {call.tag}", f"-> {self.line}"]
+
+    def printed(self, record):
+        """The program's line for a record."""
+        if self.save:
+            self.save.write(record)
+        if self.raw:
+            self.write(f"{INDENT}record {record[:3].hex(' ')} {record[3:].hex()}\n")
+        line = self.program.line(record)
+        if self.raw:
+            self.write(f"{INDENT}line   {line}\n")
+        return line
+
+    # Telling
+
+    def tell(self, first, told):
+        """The lines of calls from number `first` on; of a long row those at its ends, if the answers between them are the same."""
+        between = range(AT_ENDS, len(told) - AT_ENDS)
+        short = len(between) > 2 and len(set(self.answers[AT_ENDS:len(told) - AT_ENDS])) == 1
+        for place, lines in enumerate(told):
+            if not short or place not in between:
+                self.put(first + place, lines)
+            elif place == between[0]:
+                self.write(f"{INDENT}records {first + place} to {first + between[-1]} are alike: {self.answers[place]} each\n")
+
+    def put(self, number, lines):
+        self.write(f"{number:6}  {lines[0]}\n")
+        self.write("".join(f"{INDENT}{line}\n" for line in lines[1:]))
+
+    def slots_line(self):
+        return slots_words(self.watcher.view)
+
+    def tell_slots(self):
+        """What the slots are, if they are otherwise than was told before."""
+        shown = self.slots_line()
+        if shown != self.shown:
+            self.write(f"{INDENT}= {shown}\n")
+        self.shown = shown
+
+    def look(self):
+        self.line = self.printed(LOOK)
+        self.watcher.look_at(self.line)
+        self.write("".join(f"{INDENT}{line}\n" for line in look_lines(self.watcher.state, self.watcher.view, self.lent)))
+
+    # What was expected
+
+    def expect_answers(self, numbers):
+        if not self.answers:
+            raise LineError("expected a call above: there is no answer yet")
+        found = self.answers if len(numbers) > 1 else self.answers[-1:]
+        self.compare("the answer", "the answers", " ".join(map(str, numbers)), " ".join(map(str, found)))
+
+    def expect_slot(self, slot, state):
+        found = self.watcher.endpoint.state(slot)
+        self.compare(f"slot {slot}", "", state, next(name for name, known in STATES.items() if known == found))
+
+    def expect_body(self, body):
+        self.compare("the body", "", body.hex(" "), "none" if self.body is None else self.body.hex(" "))
+
+    def expect_line(self, line):
+        self.compare("the line", "", line, self.line or "none")
+
+    def compare(self, what, several, wanted, found):
+        if wanted != found:
+            verb = f"{several} were" if several and " " in found + wanted else f"{what} was"
+            raise Unexpected(f"expected {wanted}, and {verb} {found}")
+
+    def quit(self):
+        raise Quit

@@ -1,0 +1,130 @@
+"""Calls in words: what was called, the answer with its ground, what changed."""
+from collections import namedtuple
+
+from explain.following import HEADER
+from explain.names import FLAGS, MESSAGES, REFUSALS, count, listed, number
+from explain.wording import answer_words, effect_words, message_words, packet_words, record_words, slot_words, status_given, status_words
+from second.log import COMPLETE, PACKET, POLL
+from second.wire import CONTROL, is_sealed, message_header
+
+from .watching import WRONG_STORES
+
+SHOWN = 32                  # bytes that are shown of a body
+SHORT_BUFFER = 36
+STORE, BUFFER = 4224, 68
+
+# What is told of a call beside its event: the lent lengths of the stores, and the buffer's length of a poll
+About = namedtuple("About", "lent buffer")
+
+
+def hex_words(data):
+    """Bytes for a person: in pairs, and not more than some of them."""
+    if not data:
+        return "none"
+    return data[:SHOWN].hex(" ") + (f" and {count(len(data) - SHOWN, 'more byte')}" if len(data) > SHOWN else "")
+
+
+# Calls that a log has too
+
+def event_lines(event, about, before, after):
+    """An event in lines; `before` and `after` are the states."""
+    odd = ["!! the answer does not go with what a look shows"] if event.differs else []
+    return ["; ".join(called_words(event, about)), f"-> {answer(event, about)}", *odd,
+            *(f"   {words}" for words in (*effect_words(event), *store_words(event, before, after)))]
+
+
+def called_words(event, about):
+    if event.tag == COMPLETE:
+        body = event.body[1:]
+        return [f"complete of slot {event.named} with ticket {number(event.ticket)} and a body of {count(len(body), 'byte')}"
+                f"{status_given(body)}"]
+    if event.tag == POLL and about.buffer != BUFFER:
+        return [f"poll with a buffer of {count(about.buffer, 'byte')}"]
+    return record_words(event)
+
+
+def answer(event, about):
+    """The answer with its ground."""
+    if event.answer == WRONG_STORES:
+        wrong = [f"store {slot} has {count(length, 'byte')}" for slot, length in enumerate(about.lent) if length != STORE]
+        return f"{WRONG_STORES}, a store has not {STORE:,} bytes: {listed(wrong)}"
+    if event.answer == SHORT_BUFFER:
+        return f"{SHORT_BUFFER}, the buffer has {count(about.buffer, 'byte')}, fewer than {BUFFER}"
+    if event.sent and event.head and event.head.nmimt == CONTROL and event.primitive is None:
+        return f"1, sends a {packet_words(event.sent, event.fields)[0]}; a control reply"
+    if event.sent and event.differs:
+        return f"1, sends a {packet_words(event.sent, event.fields)[0]}"
+    return answer_words(event) + at_once(event)
+
+
+def at_once(event):
+    """A command whose response is there on entering Process: a test failed, and polls show the error."""
+    if event.tag == PACKET and event.answer == 1 and not event.differs and event.after.states[event.named] in ("Process answered", "Transmit"):
+        return "; answered at once with an error, which polls hand out"
+    return ""
+
+
+def store_words(event, before, after):
+    """What a refusal leaves otherwise than it was."""
+    if not event.refused:
+        return
+    written = [f"store {slot}" for slot in (0, 1) if before.fields[f"check{slot}"] != after.fields[f"check{slot}"]]
+    if written:
+        yield f"its payload stays in {listed(written)}"
+    if before.fields == after.fields:
+        yield "nothing changed"
+
+
+# Other calls
+
+def setup_lines(eid, line, after):
+    words = f"set up: the endpoint's EID is {after.endpoint.eid}, all else is zero" if line == "0" else (
+        f"{REFUSALS[38]}; the state is the one for EID {after.endpoint.eid}")
+    return [f"setup with EID {eid}", f"-> {line}, {words}"]
+
+
+def stores_lines(lent, line):
+    wrong = "" if all(length == STORE for length in lent) else f": receive, complete and poll answer {WRONG_STORES}"
+    return [f"stores of {number(lent[0])} and {count(lent[1], 'byte')}", f"-> {line}, they are lent from here on{wrong}"]
+
+
+def read_lines(slot, part):
+    if part:
+        return [f"read of slot {slot}", f"-> {count(len(part), 'byte')}: {message_words(part, 1)}", f"   {hex_words(part)}"]
+    return [f"read of slot {slot}", "-> 0, an empty part: no taken command awaits completion there, or a store has another length"]
+
+
+# What polls hand out
+
+def response_lines(message, packets):
+    """A whole response, joined from its packets."""
+    head, body = message_header(message), message[HEADER:-HEADER]
+    kind = MESSAGES.get(head.nmimt, f"command of unknown kind (NMIMT {head.nmimt})")
+    check = "right" if is_sealed(message) else "wrong"
+    return [f"the whole response, {count(len(message), 'byte')} in {count(packets, 'packet')}: to the {kind} of slot {head.csi}, "
+            f"status {status_words(body)}, integrity check {check}", f"   its body of {count(len(body), 'byte')}: {hex_words(body)}"]
+
+
+# The state
+
+def look_lines(state, view, lent):
+    fields = state.fields
+    word = int(fields["flags"], 16)
+    flags = [f"bit {bit} ({FLAGS[bit]})" for bit in FLAGS if word >> bit & 1]
+    last = "a control reply" if fields["last"] == "1" else "no control reply"
+    return [f"EID {fields['eid']}, packets of {fields['unit']} payload bytes, flags {fields['flags']}h: {listed(flags) or 'none is set'}",
+            f"slot {fields['turn']} goes first when no response is begun; the last packet handed out was {last}",
+            reply_line(view.reply), *(slot_line(fields, view, slot, lent[slot]) for slot in (0, 1))]
+
+
+def reply_line(reply):
+    if reply is None:
+        return "no control reply waits"
+    (eid, tag), message = reply
+    return f"a control reply waits for EID {eid} under tag {tag}: {message.hex(' ')}"
+
+
+def slot_line(fields, view, slot, lent):
+    busy = f", bit 3 is set ({FLAGS[3]})" if view.words[slot] >> 3 & 1 else ""
+    return f"{slot_words(view, slot)}{busy}; its store: {count(lent, 'byte')}, CRC-32C {fields[f'check{slot}']}h"
+

@@ -1,0 +1,155 @@
+"""A call as an event of the explaining tool: the answer, and the slots before and after, as looks show them."""
+from collections import namedtuple
+
+from explain.following import HEADER, Event, Follower
+from second import calls, log
+from second.endpoint import Answered, Process, Receive, Transmit
+from second.wire import CONTROL, packet_fields
+
+from .program import Trouble
+from .state import read_state
+
+# A call: the record's tag and body
+Call = namedtuple("Call", "tag body")
+
+# The kind of a log's record for each call that a log has too
+KINDS = {calls.RECEIVE: log.PACKET, calls.POLL: log.POLL, calls.TIMEOUT: log.TIMEOUT, calls.TAKE: log.TAKE,
+         calls.COMPLETE: log.COMPLETE, calls.RESET: log.RESET}
+WRONG_STORES = 40
+
+# What an event is made of: its number, the kind of a log's record, and what such a record would have as body
+Record = namedtuple("Record", "number tag body")
+
+
+def as_in_a_log(tag, line):
+    """The line that the log program would print: without a ticket, a length and the word about the buffer."""
+    words = line.split(" ")
+    if tag == calls.TAKE:
+        return words[0]
+    if tag == calls.POLL:
+        return f"1 {words[2]}" if words[0] == "1" and len(words) == 4 else words[0]
+    return line
+
+
+def slot_and_rest(tag, body):
+    """The slot that a call names, and what stands behind it."""
+    return int.from_bytes(body[:4], "little"), body[8:] if tag == calls.COMPLETE else b""
+
+
+class Watcher(Follower):
+    """Follows the calls by looks in place of the second program."""
+
+    def __init__(self, line):
+        self.state = read_state(line)
+        self.view = self.look()
+        self.forget()
+
+    def forget(self):
+        """What was known of messages and tickets is of another state."""
+        self.waiting = None                     # the primitive whose reply waits
+        self.taken_at, self.given = {}, {}      # by slot and ticket, the take that gave it; by slot, the ticket last given
+        self.gathered = [b"", b""]              # the bytes of the command that each slot gathers
+
+    @property
+    def endpoint(self):
+        return self.state.endpoint
+
+    def look_at(self, line):
+        self.state = read_state(line, self.state)
+        self.view = self.look()
+
+    def event(self, number, call, line, look):
+        """The event of a call that a log has too. Without `expected` if answer and slots do not go together."""
+        kind = KINDS[call.tag]
+        slot, rest = slot_and_rest(call.tag, call.body)
+        body = call.body if kind == log.PACKET else bytes((slot & 0xFF,)) + rest
+        event = Event(Record(number, kind, body), as_in_a_log(call.tag, line), self.view)
+        event.expected, event.eid, event.not_taken = event.line, self.endpoint.eid, "which no take of that slot gave"
+        self.look_at(look)
+        event.after = self.view
+        if kind in (log.TIMEOUT, log.TAKE, log.COMPLETE):
+            self.on_slot(event, slot)
+        if kind == log.TAKE and event.answer == 0:
+            self.took(event, event.after.counts[slot] if slot < 2 else 0)
+        if kind == log.COMPLETE:
+            event.ticket = int.from_bytes(call.body[4:8], "little")
+            event.taken_at = self.taken_at.get((slot, event.ticket))
+        if kind in WATCHED:
+            getattr(self, WATCHED[kind])(event)
+        if not event.known:
+            raise Trouble(f"record {number}: {line!r} is no line for this call")
+        if not fits(event):
+            event.expected = None
+        return event
+
+    def on_slot(self, event, slot):
+        event.named = slot
+        event.slots = frozenset((slot,))
+
+    def took(self, event, ticket):
+        event.ticket = self.given[event.named] = ticket
+        self.taken_at[event.named, ticket] = event.number
+
+    def packet(self, event):
+        if event.answer == WRONG_STORES:        # nothing was looked at
+            if len(event.body) >= HEADER:
+                event.fields, event.payload = packet_fields(event.body), event.body[HEADER:]
+            return
+        super().packet(event)
+        if event.answer == 0 and event.named is not None:
+            self.gathered[event.named] = self.so_far(event)
+
+    def control(self, event):
+        if event.after.reply is not None:
+            super().control(event)
+
+    def so_far(self, event):
+        """The command's bytes up to and with this packet."""
+        return bytes(event.payload) if event.fields.som else self.gathered[event.named] + bytes(event.payload)
+
+    def entered(self, event):
+        """The error that answers a command at once is in the store, which a look does not show."""
+
+    def wrong_check(self, event):
+        is_control = event.head and event.head.nmimt == CONTROL
+        event.message = bytes(event.payload) if is_control else self.so_far(event)
+
+
+# What the slot that a call names has to hold after its answer
+HELD = {(log.PACKET, 0): Receive, (log.PACKET, 1): (Process, Answered, Transmit), (log.TAKE, 0): Process,
+        (log.COMPLETE, 0): (Answered, Transmit)}
+
+
+def fits(event):
+    """Whether an answer can be told from the slots: a program that is wrong can print others."""
+    kind = event.tag, event.answer
+    if kind in HELD:
+        return event.named in (0, 1) and isinstance(event.after.jobs[event.named], HELD[kind])
+    if kind == (log.PACKET, 2):
+        return event.primitive is not None
+    if kind == (log.POLL, 1) and not (event.head and event.head.nmimt == CONTROL):
+        return event.named is not None and isinstance(event.before.jobs[event.named], Transmit)
+    return True
+
+
+WATCHED = {log.PACKET: "packet", log.POLL: "poll", log.RESET: "reset"}
+
+
+class Joiner:
+    """Joins the packets that polls hand out to responses."""
+
+    def __init__(self):
+        self.parts = {}
+
+    def joined(self, packet):
+        """The whole message with its number of packets, at its last packet; else None."""
+        fields = packet_fields(packet)
+        who = fields.destination, fields.tag
+        if fields.som:
+            self.parts[who] = []
+        parts = self.parts.setdefault(who, [])
+        parts.append(packet[HEADER:])
+        if not fields.eom:
+            return None
+        del self.parts[who]
+        return b"".join(parts), len(parts)

@@ -1,0 +1,200 @@
+"""The words that a line can begin with: what each is given, what it does, and its help.
+
+A reader takes the words of a line and gives a function of the session, so that a line is read whole before anything is called.
+"""
+from collections import namedtuple
+
+import call_records
+from second import calls
+
+from . import messages
+from .values import LineError, Words, number_of
+
+Word = namedtuple("Word", "usage meaning read options", defaults=({},))
+
+NUMBER = 0xFFFFFFFF
+LENGTH = 0xFFFF
+
+# The states of a slot as `expect` names them, and as the second program does
+STATES = {"idle": "Idle", "receive": "Receive", "untaken": "Process untaken", "taken": "Process taken",
+          "answered": "Process answered", "transmit": "Transmit"}
+
+
+def on_slot(record):
+    """A reader for a call that is given a slot."""
+    def read(words):
+        slot = words.number("a slot", 0, NUMBER)
+        words.end()
+        return lambda session: session.call(record(slot))
+    return read
+
+
+def read_setup(words):
+    eid = words.number("an EID", 0, 255)
+    words.end()
+    return lambda session: session.call(call_records.setup(eid))
+
+
+def read_stores(words):
+    lengths = [words.number(f"the length of store {slot}", 0, calls.MEMORY) for slot in (0, 1)]
+    words.end()
+    return lambda session: session.call(call_records.stores(*lengths))
+
+
+def read_message(read):
+    """A reader for a whole message, whose packets are sent one after the other."""
+    def reader(words):
+        packets = read(words)
+        return lambda session: session.call(*call_records.receive_all(packets(session.eid)))
+    return reader
+
+
+def read_packet(words):
+    packet = words.bytes()
+    return lambda session: session.call(call_records.record(calls.RECEIVE, packet))
+
+
+def read_record(words):
+    record = call_records.record(words.number("a tag", 0, 255), words.bytes())
+    return lambda session: session.call(record)
+
+
+def read_complete(words):
+    slot = words.number("a slot", 0, NUMBER)
+    ticket = read_ticket(words)
+    body = words.bytes()
+    return lambda session: session.call(call_records.complete(session.ticket(slot) if ticket is None else ticket, body, slot))
+
+
+def read_ticket(words):
+    """A ticket; None for the last that was taken from the slot."""
+    expected = f"a ticket, 0 to {NUMBER:,}, or taken"
+    word = words.next(expected)
+    ticket = number_of(word)
+    if word != "taken" and (ticket is None or ticket > NUMBER):
+        raise LineError(f"expected {expected}, and there is {word!r}")
+    return ticket
+
+
+def read_buffer(words):
+    length = words.number("a buffer's length", 0, LENGTH) if words else 68
+    words.end()
+    return length
+
+
+def read_poll(words):
+    length = read_buffer(words)
+    return lambda session: session.call(call_records.poll(length))
+
+
+def read_polls(words):
+    length = read_buffer(words)
+    return lambda session: session.polls(call_records.poll(length))
+
+
+def read_alone(act):
+    """A reader for a word that is given nothing."""
+    def read(words):
+        words.end()
+        return act
+    return read
+
+
+def read_expect(words):
+    form = words.next("an answer's number, slot, body or line")
+    if form in EXPECTATIONS:
+        return EXPECTATIONS[form](words)
+    words.words.insert(0, form)
+    numbers = [words.number("an answer's number", 0, NUMBER)]
+    while words:
+        numbers.append(words.number("an answer's number", 0, NUMBER))
+    return lambda session: session.expect_answers(numbers)
+
+
+def read_expect_slot(words):
+    slot = words.number("a slot", 0, 1)
+    state = words.next(listed_states())
+    words.end()
+    if state not in STATES:
+        raise LineError(f"expected {listed_states()}, and there is {state!r}")
+    return lambda session: session.expect_slot(slot, state)
+
+
+def listed_states():
+    return f"one of {', '.join(STATES)}"
+
+
+def read_expect_body(words):
+    body = words.bytes()
+    return lambda session: session.expect_body(body)
+
+
+def read_expect_line(words):
+    line = " ".join(words.words)
+    return lambda session: session.expect_line(line)
+
+
+EXPECTATIONS = {"slot": read_expect_slot, "body": read_expect_body, "line": read_expect_line}
+
+
+def read_help(words):
+    name = words.next("a word") if words else None
+    words.end()
+    if name is not None and name not in WORDS:
+        raise LineError(f"expected one of {', '.join(WORDS)}, and there is {name!r}")
+    return lambda session: session.write("".join(f"{line}\n" for line in help_lines(name)))
+
+
+WORDS = {
+    "setup": Word("setup EID", "a new state; the EID is 8 to 254, and commands then go to it", read_setup),
+    "command": Word("command [slot N] mi|admin|pcie LENGTH [OPTION ..]",
+                    "a whole command, sealed with its integrity check and cut into packets, each of them received",
+                    read_message(messages.read_command), messages.COMMAND_OPTIONS),
+    "control": Word("control pause|resume|abort|get-state|OPCODE [slot N] [tag TAG] [OPTION ..]",
+                    "a control primitive in its packet", read_message(messages.read_control), messages.CONTROL_OPTIONS),
+    "packet": Word("packet BYTES", "one packet as it is, as in: packet 01 08 09 c9 84 zeros 64", read_packet),
+    "take": Word("take SLOT", "takes the command that waits there: answers a ticket", on_slot(call_records.take)),
+    "read": Word("read SLOT", "the request that was taken there; its answer is the number of bytes", on_slot(call_records.read)),
+    "complete": Word("complete SLOT TICKET BYTES",
+                     "the response's body, from its status on; in place of a ticket, taken: the one last taken there (else 0)",
+                     read_complete),
+    "poll": Word("poll [LENGTH]", "asks for one packet with a buffer of this length (68 if not given)", read_poll),
+    "polls": Word("polls [LENGTH]", "polls until nothing comes", read_polls),
+    "timeout": Word("timeout SLOT", "the slot's requester was too slow", on_slot(call_records.timeout)),
+    "reset": Word("reset", "both slots Idle; ticket counts are kept", read_alone(lambda session: session.call(call_records.RESET))),
+    "stores": Word("stores LENGTH LENGTH", "lends stores of these lengths from here on (right are 4224 4224)", read_stores),
+    "look": Word("look", "the whole state", read_alone(lambda session: session.look())),
+    "record": Word("record TAG [BYTES]", "any record of the calls program, as it is", read_record),
+    "expect": Word("expect NUMBER [NUMBER ..] | slot N STATE | body BYTES | line LINE",
+                   "fails if the last answer was another (several numbers: the answers of the last line that called, in order);\n"
+                   f"    if the slot is in another state than STATE ({', '.join(STATES)});\n"
+                   "    if the last whole response or control reply has another body; or if the program's last line was another",
+                   read_expect),
+    "help": Word("help [WORD]", "this list, or all about a word", read_help),
+    "quit": Word("quit", "ends, as Ctrl-D does", read_alone(lambda session: session.quit())),
+}
+NOTES = ("BYTES are hex (01 0809 c9), zeros N, ones N or rising N, in any order. Numbers are decimal, or hex as 0x5a or 5Ah.",
+         "# begins a comment. Words and options are looked up with: help WORD")
+
+
+def help_lines(name=None):
+    """All words, or one with its options."""
+    if name is None:
+        return [line for word in WORDS.values() for line in (word.usage, f"    {word.meaning}")] + ["", *NOTES]
+    word = WORDS[name]
+    return [word.usage, f"    {word.meaning}", *(f"    {option_usage(name, found):22}{found.meaning}"
+                                                 for name, found in word.options.items())]
+
+
+def option_usage(name, found):
+    return " ".join((name, *(given.split()[-1].upper() for given, _, _ in found.given), *(("BYTES",) if name == "fill" else ())))
+
+
+def read_line(line):
+    """What a line asks for, as a function of the session; None for an empty one."""
+    words = line.partition("#")[0].split()
+    if not words:
+        return None
+    if words[0] not in WORDS:
+        raise LineError(f"expected one of {', '.join(WORDS)}, and there is {words[0]!r}")
+    return WORDS[words[0]].read(Words(words[1:]))
