@@ -2,11 +2,12 @@
 import argparse
 import contextlib
 import os
+import shutil
 import signal
 import sys
 
-from .program import Program, Trouble
-from .session import Quit, Session, Unexpected
+from .program import Program, Trouble, unsignalled
+from .session import WIDTH, Quit, Session, Unexpected
 from .values import LineError
 from .words import WORDS
 
@@ -122,15 +123,21 @@ def script_of(name):
     return contextlib.nullcontext(sys.stdin)
 
 
+def width():
+    """Columns for a line: those of the terminal, where there is one and it has enough."""
+    return max(shutil.get_terminal_size().columns - 1, 60) if sys.stdout.isatty() else WIDTH
+
+
 def run(given):
     """Does what the command line asks for; the status."""
     with contextlib.ExitStack() as stack:
         stream = stack.enter_context(script_of(given.script))
         asks = stream is sys.stdin and stream.isatty()
         save = stack.enter_context(opened(given.save, "wb")) if given.save else None
-        program = Program(given.program)
-        stack.callback(program.close)
-        session = Session(program, sys.stdout.write, given.raw, save)
+        with unsignalled():
+            program = Program(given.program)
+            stack.callback(program.close)
+        session = Session(program, sys.stdout.write, given.raw, save, width())
         name = "standard input" if given.script == "-" else given.script
         try:
             status = follow(session, prompt_lines() if asks else file_lines(stream), name, asks)

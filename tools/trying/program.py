@@ -1,6 +1,8 @@
 """The calls program as a child: a record in, a line out."""
+import contextlib
 import pathlib
 import shlex
+import signal
 import subprocess
 
 ROOT = pathlib.Path(__file__).resolve().parent.parent.parent
@@ -11,6 +13,19 @@ class Trouble(Exception):
     """Something that ends the tool and is told to the user in words."""
 
 
+ENDING = signal.SIGTERM, signal.SIGHUP, signal.SIGINT
+
+
+@contextlib.contextmanager
+def unsignalled():
+    """Signals that end the tool come later: none falls between the start of the child and the note that it has to be ended."""
+    before = signal.pthread_sigmask(signal.SIG_BLOCK, ENDING)
+    try:
+        yield
+    finally:
+        signal.pthread_sigmask(signal.SIG_SETMASK, before)
+
+
 class Program:
     """The child. It has a session of its own, so that a Ctrl-C at the prompt does not end it."""
 
@@ -18,7 +33,8 @@ class Program:
         self.name = command or "mi_calls"
         try:
             self.child = subprocess.Popen(shlex.split(command) if command else RUNNER, stdin=subprocess.PIPE, stdout=subprocess.PIPE,
-                                          start_new_session=True)
+                                          start_new_session=True,
+                                          preexec_fn=lambda: signal.pthread_sigmask(signal.SIG_UNBLOCK, ENDING))
         except (OSError, ValueError) as error:
             raise Trouble(f"{self.name} can't be run: {getattr(error, 'strerror', None) or error}") from None
 

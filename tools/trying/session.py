@@ -1,4 +1,6 @@
 """Lines, one by one: the calls that they ask for, the answers in words, and what was expected."""
+import textwrap
+
 from explain.wording import slots_words
 from second import calls
 
@@ -10,6 +12,7 @@ from .words import STATES, read_line
 
 LOOK = bytes((calls.LOOK, 0, 0))
 INDENT = " " * 8
+WIDTH = 120
 AT_ENDS = 2                 # calls that are told at each end of a long row
 
 
@@ -29,8 +32,8 @@ class Session:
     body      the body of the last response or control reply that was whole
     """
 
-    def __init__(self, program, write, raw=False, save=None):
-        self.program, self.write, self.raw, self.save = program, write, raw, save
+    def __init__(self, program, write, raw=False, save=None, width=WIDTH):
+        self.program, self.write, self.raw, self.save, self.width = program, write, raw, save, width
         self.number, self.answers, self.line, self.body = 0, [], None, None
         self.lent, self.joiner = (4224, 4224), Joiner()
         self.watcher = Watcher(self.printed(LOOK))
@@ -127,7 +130,7 @@ class Session:
         if self.save:
             self.save.write(record)
         if self.raw:
-            self.write(f"{INDENT}record {record[:3].hex(' ')} {record[3:].hex()}\n")
+            self.write(f"{INDENT}record {record[:3].hex(' ')} {record[3:].hex()}".rstrip() + "\n")
         line = self.program.line(record)
         if self.raw:
             self.write(f"{INDENT}line   {line}\n")
@@ -143,11 +146,17 @@ class Session:
             if not short or place not in between:
                 self.put(first + place, lines)
             elif place == between[0]:
-                self.write(f"{INDENT}records {first + place} to {first + between[-1]} are alike: {self.answers[place]} each\n")
+                self.put("", [f"records {first + place} to {first + between[-1]} are alike: {self.answers[place]} each"])
 
     def put(self, number, lines):
-        self.write(f"{number:6}  {lines[0]}\n")
-        self.write("".join(f"{INDENT}{line}\n" for line in lines[1:]))
+        """Lines, the first with a number in front; long ones go on below."""
+        for place, line in enumerate(lines):
+            text = line.lstrip()
+            lead = INDENT + " " * (len(line) - len(text))
+            front = f"{number:>6}  " if place == 0 else lead
+            self.write("".join(f"{part}\n" for part in textwrap.wrap(
+                text, self.width, initial_indent=front, subsequent_indent=lead + "   ", break_long_words=False,
+                break_on_hyphens=False)))
 
     def slots_line(self):
         return slots_words(self.watcher.view)
@@ -156,13 +165,13 @@ class Session:
         """What the slots are, if they are otherwise than was told before."""
         shown = self.slots_line()
         if shown != self.shown:
-            self.write(f"{INDENT}= {shown}\n")
+            self.put("", [f"= {shown}"])
         self.shown = shown
 
     def look(self):
         self.line = self.printed(LOOK)
         self.watcher.look_at(self.line)
-        self.write("".join(f"{INDENT}{line}\n" for line in look_lines(self.watcher.state, self.watcher.view, self.lent)))
+        self.put("", look_lines(self.watcher.state, self.watcher.view, self.lent))
 
     # What was expected
 

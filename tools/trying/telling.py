@@ -9,7 +9,7 @@ from second.wire import CONTROL, is_sealed, message_header
 
 from .watching import WRONG_STORES
 
-SHOWN = 32                  # bytes that are shown of a body
+SHOWN = 20                  # bytes that are shown of a body
 SHORT_BUFFER = 36
 STORE, BUFFER = 4224, 68
 
@@ -97,12 +97,14 @@ def read_lines(slot, part):
 # What polls hand out
 
 def response_lines(message, packets):
-    """A whole response, joined from its packets."""
+    """A whole response, joined from its packets; of a single packet all but its body was told with the packet."""
     head, body = message_header(message), message[HEADER:-HEADER]
-    kind = MESSAGES.get(head.nmimt, f"command of unknown kind (NMIMT {head.nmimt})")
-    check = "right" if is_sealed(message) else "wrong"
-    return [f"the whole response, {count(len(message), 'byte')} in {count(packets, 'packet')}: to the {kind} of slot {head.csi}, "
-            f"status {status_words(body)}, integrity check {check}", f"   its body of {count(len(body), 'byte')}: {hex_words(body)}"]
+    check = f"integrity check {'right' if is_sealed(message) else 'wrong'}"
+    if packets > 1:
+        kind = MESSAGES.get(head.nmimt, f"command of unknown kind (NMIMT {head.nmimt})")
+        yield (f"the whole response to the {kind} of slot {head.csi}: {count(len(message), 'byte')} in {count(packets, 'packet')}, "
+               f"status {status_words(body)}, {check}")
+    yield f"its body of {count(len(body), 'byte')}: {hex_words(body)}{'' if packets > 1 else f'; {check}'}"
 
 
 # The state
