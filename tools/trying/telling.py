@@ -12,6 +12,7 @@ from .watching import WRONG_STORES
 SHOWN = 20                  # bytes that are shown of a body
 SHORT_BUFFER = 36
 STORE, BUFFER = 4224, 68
+SHORTEST = 12               # bytes of the shortest response: header, status with three bytes, check
 
 # What is told of a call beside its event: the lent lengths of the stores, and the buffer's length of a poll
 About = namedtuple("About", "lent buffer")
@@ -98,6 +99,9 @@ def read_lines(slot, part):
 
 def response_lines(message, packets):
     """A whole response, joined from its packets; of a single packet all but its body was told with the packet."""
+    if len(message) < SHORTEST:
+        yield f"{count(len(message), 'byte')}, which is too few for a response: {hex_words(message)}"
+        return
     head, body = message_header(message), message[HEADER:-HEADER]
     check = f"integrity check {'right' if is_sealed(message) else 'wrong'}"
     if packets > 1:
