@@ -3,8 +3,8 @@
 
     python3 -B tests/test_run_program.py
 
-They run in a temporary repository of three crates, with a stand-in for rt and one for the program that it builds: nothing is proved.
-The folder that is the path has links to the commands that the scripts may use, and to no other.
+They run in a temporary repository of a few crates, with a stand-in for rt and one for the program that it builds: nothing is
+proved. The folder that is the path has links to the commands that the scripts may use, and to no other.
 """
 import os
 import pathlib
@@ -17,7 +17,8 @@ import time
 import unittest
 
 ROOT = pathlib.Path(__file__).resolve().parent.parent
-COMMANDS = "bash sh env awk sed sort find xargs sha256sum cut dirname readlink mkdir cat rm mv cp ln sleep wc flock head chmod".split()
+COMMANDS = ("bash sh env awk sed sort find xargs sha256sum cut dirname readlink mkdir cat rm mv cp ln sleep wc flock head "
+            "chmod").split()
 
 # rt: `version` prints the file kit; `check` notes its start, does what the file `do` says (the default builds) and prints as rt does
 RT = """#!/bin/sh

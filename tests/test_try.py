@@ -114,11 +114,16 @@ class Building(Case):
         self.assertIn("slot1=1,1,0,process:9:3:2:72:taken", self.session.line)
 
     def test_fields(self):
-        for line, bytes_ in (("command mi 20 from 20 tag 5", "010814cd8408"), ("command mi 20 version 3 dest 7 to 0 seq 2", "030709e18408"),
-                             ("command mi 20 opcode 9 fill ff", "010809c98408000009ffff"), ("command mi 20 mtag 6", "010809ce"),
-                             ("command nmimt 15 20 slot 1 ror meb ciap", "010809c984f90300"), ("command mi 8 opcode 1", "010809c98408"),
-                             ("control abort slot 1 tag 5Ah cpsp 0x102", "010809ca840100000" "25a0201"), ("control 200", "010809ca84000000c800"),
-                             ("control get-state clear mtag 7 from 1", "010801cf8400000003000100"), ("packet 01:08 0x09 c9 ones 2", "010809c9ffff")):
+        for line, bytes_ in (("command mi 20 from 20 tag 5", "010814cd8408"),
+                             ("command mi 20 version 3 dest 7 to 0 seq 2", "030709e18408"),
+                             ("command mi 20 opcode 9 fill ff", "010809c98408000009ffff"),
+                             ("command mi 20 mtag 6", "010809ce"),
+                             ("command nmimt 15 20 slot 1 ror meb ciap", "010809c984f90300"),
+                             ("command mi 8 opcode 1", "010809c98408"),
+                             ("control abort slot 1 tag 5Ah cpsp 0x102", "010809ca84010000025a0201"),
+                             ("control 200", "010809ca84000000c800"),
+                             ("control get-state clear mtag 7 from 1", "010801cf8400000003000100"),
+                             ("packet 01:08 0x09 c9 ones 2", "010809c9ffff")):
             with self.subTest(line=line):
                 self.begin(save=io.BytesIO())
                 self.does(line)
@@ -127,7 +132,8 @@ class Building(Case):
     def test_damage(self):
         for line, *numbers in (("command mi 20 bad-check", 19), ("command mi 20 version 2", 12), ("command mi 20 dest 9", 13),
                                ("command mi 20 to 0", 14), ("command mi 20 ror", 15), ("command mi 200 no-eom", 0, 0, 0, 16),
-                               ("command mi 200 only 2", 0, 0), ("command mi 200 skip 2 only 3", 0), ("reset", 0), ("command mi 200 no-som", 21, 21, 21, 21),
+                               ("command mi 200 only 2", 0, 0), ("command mi 200 skip 2 only 3", 0), ("reset", 0),
+                               ("command mi 200 no-som", 21, 21, 21, 21),
                                ("control pause bad-check", 19), ("control pause ror", 15), ("control pause no-eom", 16)):
             self.answers(line, *numbers)
 
@@ -156,15 +162,16 @@ class Telling(Case):
     def test_what_changed(self):
         self.says("take 4294967295", "30, there is no slot 4294967295", "nothing changed")
         self.says("command mi 100 only 1", "slot 0 goes from Idle to Receive", "= slot 0 Receive, 64 bytes")
-        self.says("command mi 20 bad-check", "19, the integrity check is wrong: the message of 20 bytes carries", "ends the assembly of slot 0",
-                  "sets flag bit 4", "its payload stays in store 0")
+        self.says("command mi 20 bad-check", "19, the integrity check is wrong: the message of 20 bytes carries",
+                  "ends the assembly of slot 0", "sets flag bit 4", "its payload stays in store 0")
         self.says("command mi 100 skip 1 bad-check", "21, ")
         self.says("command mi 100 bad-check", "19, the integrity check is wrong: the message of 100 bytes carries")
 
     def test_stores_and_buffer(self):
         self.does("command mi 100 only 1")
         self.says("stores 0 4300", "receive, complete and poll answer 40")
-        self.says("command mi 20", "40, a store has not 4,224 bytes: store 0 has 0 bytes and store 1 has 4,300 bytes", "nothing changed")
+        self.says("command mi 20", "40, a store has not 4,224 bytes: store 0 has 0 bytes and store 1 has 4,300 bytes",
+                  "nothing changed")
         self.says("packet 01", "40, ")
         self.says("poll", "40, ")
         self.says("read 0", "0, an empty part")
@@ -177,7 +184,8 @@ class Telling(Case):
 
     def test_replies(self):
         self.says("control get-state slot 1 tag 90", "TAG 5ah, CPSR 0000h: state Idle")
-        self.says("control 9", "error 03h (invalid opcode); it did not act", "the reply to Get State for slot 1 of record 1, which waited, is replaced")
+        self.says("control 9", "error 03h (invalid opcode); it did not act",
+                  "the reply to Get State for slot 1 of record 1, which waited, is replaced")
         self.says("poll", "the reply to control primitive 09h for slot 0 of record 2")
         self.does("control pause", "setup 8")
         self.says("poll", "0, nothing to send")
@@ -186,8 +194,9 @@ class Telling(Case):
         self.does("command mi 20", "take 0", "complete 0 taken rising 61")
         self.says("poll", "packet 1 of 2 of the response of slot 0 to its MI command, status 00h (success)")
         self.does("control get-state")
-        self.says("polls", "the reply to Get State", "packet 2 of 2", "the whole response to the MI command of slot 0: 69 bytes in 2 packets",
-                  "its body of 61 bytes: 00 01 02", "integrity check right")
+        self.says("polls", "the reply to Get State", "packet 2 of 2",
+                  "the whole response to the MI command of slot 0: 69 bytes in 2 packets", "its body of 61 bytes: 00 01 02",
+                  "integrity check right")
 
     def test_at_once(self):
         self.says("command mi 19", "1, a command is complete: slot 0 enters Process with ticket 1; answered at once with an error")
@@ -207,7 +216,8 @@ class Telling(Case):
 
     def test_look(self):
         self.does("command mi 20", "command mi 20", "packet 01 08 09 c1 84", "control pause")
-        self.says("look", "EID 8, packets of 64 payload bytes, flags 1000h: bit 12 (TO was 0)", "slot 0 goes first when no response is begun",
+        self.says("look", "EID 8, packets of 64 payload bytes, flags 1000h: bit 12 (TO was 0)",
+                  "slot 0 goes first when no response is begun",
                   "a control reply waits for EID 9 under tag 2: 84 80 00 00 00 00 01 00", "paused, ticket 1, bit 3 is set")
 
     def test_raw_and_save(self):
@@ -217,9 +227,11 @@ class Telling(Case):
         self.assertEqual(list(call_lines(io.BytesIO(saved.getvalue())))[1], "31")
 
     def test_a_program_that_is_wrong(self):
-        for call, line, words in (("command mi 20", "1", "1, a command is complete"), ("command mi 100 only 1", "0", "0, taken in, more to come"),
+        for call, line, words in (("command mi 20", "1", "1, a command is complete"),
+                                  ("command mi 100 only 1", "0", "0, taken in, more to come"),
                                   ("control pause", "2", "2, a control primitive was answered"), ("take 0", "0 1", "0, taken"),
-                                  ("complete 0 0 zeros 4", "0", "0, completed"), ("poll", "1 5 010908c184 stays", "1, sends a packet of 5 bytes")):
+                                  ("complete 0 0 zeros 4", "0", "0, completed"),
+                                  ("poll", "1 5 010908c184 stays", "1, sends a packet of 5 bytes")):
             self.begin(Printing(line))
             self.says(call, words, "!! the answer does not go with what a look shows")
         self.begin(Printing("0 touched"))
@@ -246,10 +258,12 @@ class Lines(Case):
                 ("control", "expected pause, resume, abort, get-state or an opcode, and the line ends"),
                 ("control stop", "and there is 'stop'"), ("control 256", "0 to 255, and there is '256'"),
                 ("packet 1", "expected bytes: hex, zeros N, ones N or rising N, and there is '1'"),
-                ("packet zeros", "expected a number of bytes for zeros"), ("packet zeros 8000 ones 8000", "expected at most 8,192 bytes"),
-                ("complete 0", "expected a ticket, 0 to 4,294,967,295, or taken, and the line ends"), ("complete 0 x", "and there is 'x'"),
-                ("poll 65536", "expected a buffer's length, 0 to 65,535"), ("stores 4301 0", "expected the length of store 0, 0 to 4,300"),
-                ("stores 1", "expected the length of store 1"), ("reset 1", "expected the end"), ("expect", "expected an answer's number, slot, body or line"),
+                ("packet zeros", "expected a number of bytes for zeros"),
+                ("packet zeros 8000 ones 8000", "expected at most 8,192 bytes"),
+                ("complete 0", "expected a ticket, 0 to 4,294,967,295, or taken, and the line ends"),
+                ("complete 0 x", "and there is 'x'"), ("poll 65536", "expected a buffer's length, 0 to 65,535"),
+                ("stores 4301 0", "expected the length of store 0, 0 to 4,300"), ("stores 1", "expected the length of store 1"),
+                ("reset 1", "expected the end"), ("expect", "expected an answer's number, slot, body or line"),
                 ("expect x", "expected an answer's number"), ("expect slot 0 busy", "expected one of idle, receive"),
                 ("expect 0", "expected a call above"), ("help x", "expected one of setup")):
             with self.subTest(line=line), self.assertRaises(LineError) as caught:
@@ -262,9 +276,12 @@ class Lines(Case):
             self.assertIsNone(read_line(line))
 
     def test_expectations(self):
-        self.does("command mi 100", "expect 1", "expect 0 1", "expect 0x00 1h", "expect slot 0 untaken", "take 0  # a comment", "expect line 0 1")
-        for line, words in (("expect 1", "expected 1, and the answer was 0"), ("expect 0 1", "expected 0 1, and the answers were 0"),
-                            ("expect slot 0 idle", "expected idle, and slot 0 was taken"), ("expect body 00", "expected 00, and the body was none"),
+        self.does("command mi 100", "expect 1", "expect 0 1", "expect 0x00 1h", "expect slot 0 untaken", "take 0  # a comment",
+                  "expect line 0 1")
+        for line, words in (("expect 1", "expected 1, and the answer was 0"),
+                            ("expect 0 1", "expected 0 1, and the answers were 0"),
+                            ("expect slot 0 idle", "expected idle, and slot 0 was taken"),
+                            ("expect body 00", "expected 00, and the body was none"),
                             ("expect line 0 2", "expected 0 2, and the line was 0 1")):
             with self.assertRaises(Unexpected) as caught:
                 self.does(line)
@@ -310,7 +327,8 @@ class Tool(unittest.TestCase):
             self.assertNotIn("bad", list(call_lines(io.BytesIO(saved.read_bytes()))))
 
     def test_status(self):
-        self.ended(self.run_it(given="take 0\nexpect 0\ntake 0\n"), 1, "mi-try: standard input line 2: expected 0, and the answer was 31")
+        self.ended(self.run_it(given="take 0\nexpect 0\ntake 0\n"), 1,
+                   "mi-try: standard input line 2: expected 0, and the answer was 31")
         self.ended(self.run_it(given="take 0\n\ntake\n"), 2, "mi-try: standard input line 3: expected a slot")
         self.ended(self.run_it(given="quit\ntake\n"), 0)
         self.ended(self.run_it(given="take 0"), 0)
@@ -331,8 +349,8 @@ class Tool(unittest.TestCase):
     def test_outputs(self):
         self.ended(self.run_it(given="poll\n", stdout=open("/dev/full", "w")), 1, "the output can't be written: No space left")
         for redirection, words in ((">&-", "standard output is closed"), ("<&-", "standard input is closed")):
-            ran = subprocess.run(["bash", "-c", f'"$0" --program "$1" {redirection}', ROOT / "mi-try", SECOND], capture_output=True, text=True,
-                                 timeout=20)
+            ran = subprocess.run(["bash", "-c", f'"$0" --program "$1" {redirection}', ROOT / "mi-try", SECOND], capture_output=True,
+                                 text=True, timeout=20)
             self.ended(ran, 1, words)
         ours, theirs = os.pipe()
         os.close(ours)
@@ -344,8 +362,8 @@ class Tool(unittest.TestCase):
         with tempfile.TemporaryDirectory() as folder:
             note = pathlib.Path(folder) / "pid"
             for number, status in ((signal.SIGTERM, 143), (signal.SIGHUP, 129), (signal.SIGINT, 130)):
-                child = subprocess.Popen([ROOT / "mi-try", "--program", f"sh -c 'echo $$ >{note}; exec sleep 987'"], stdin=subprocess.PIPE,
-                                         stdout=subprocess.PIPE, stderr=subprocess.PIPE)
+                child = subprocess.Popen([ROOT / "mi-try", "--program", f"sh -c 'echo $$ >{note}; exec sleep 987'"],
+                                         stdin=subprocess.PIPE, stdout=subprocess.PIPE, stderr=subprocess.PIPE)
                 while not note.exists() or not note.read_text().strip():
                     time.sleep(0.01)
                 child.send_signal(number)

@@ -6,10 +6,11 @@ import shutil
 import signal
 import sys
 
+from .messages import PRIMITIVES
 from .program import Program, Trouble, unsignalled
 from .session import WIDTH, Quit, Session, Unexpected
-from .values import LineError
-from .words import WORDS
+from .values import PATTERNS, LineError
+from .words import EXPECTATIONS, STATES, WORDS
 
 DESCRIPTION = "Tries the endpoint by hand: each line is a call, and its answer is told in words."
 
@@ -35,9 +36,10 @@ def parser():
     found = argparse.ArgumentParser(prog="mi-try", description=DESCRIPTION, epilog=EPILOG,
                                     formatter_class=argparse.RawDescriptionHelpFormatter)
     found.add_argument("script", metavar="SCRIPT", nargs="?", default="-", help="a file of lines; - is standard input")
-    found.add_argument("--raw", action="store_true", help="shows each record that is sent, in hex, and the line that is printed for it")
+    found.add_argument("--raw", action="store_true", help="shows each record that is sent, in hex, and the line printed for it")
     found.add_argument("--save", metavar="FILE", help="writes all records that are sent to FILE, a script for mi_calls")
-    found.add_argument("--program", metavar="COMMAND", help="the program that is tried in place of mi_calls, as 'python3 tests/second calls'")
+    found.add_argument("--program", metavar="COMMAND",
+                       help="the program that is tried in place of mi_calls, as 'python3 tests/second calls'")
     return found
 
 
@@ -76,15 +78,19 @@ def prepare_readline():
 
 def completion(before, text, place):
     """The word number `place` that can stand behind `before` and begins with `text`."""
-    words = before.split()
-    known = WORDS if not words or words == ["help"] else (*WORDS[words[0]].options, *MORE.get(words[0], ())) if words[0] in WORDS else ()
-    found = [f"{word} " for word in known if word.startswith(text)]
+    found = [f"{word} " for word in known_behind(before.split()) if word.startswith(text)]
     return found[place] if place < len(found) else None
 
 
+def known_behind(words):
+    if not words or words == ["help"]:
+        return WORDS
+    return (*WORDS[words[0]].options, *MORE.get(words[0], ())) if words[0] in WORDS else ()
+
+
 # Words that can follow beside options
-MORE = {"control": ("pause", "resume", "abort", "get-state"), "complete": ("taken", "zeros", "ones", "rising", "hex"),
-        "packet": ("zeros", "ones", "rising"), "expect": ("slot", "body", "line", "idle", "receive", "untaken", "taken", "answered", "transmit")}
+MORE = {"control": tuple(PRIMITIVES), "complete": ("taken", *PATTERNS), "packet": tuple(PATTERNS),
+        "expect": (*EXPECTATIONS, *STATES)}
 
 
 # Doing them

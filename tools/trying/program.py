@@ -32,9 +32,9 @@ class Program:
     def __init__(self, command=None):
         self.name = command or "mi_calls"
         try:
-            self.child = subprocess.Popen(shlex.split(command) if command else RUNNER, stdin=subprocess.PIPE, stdout=subprocess.PIPE,
-                                          start_new_session=True,
-                                          preexec_fn=lambda: signal.pthread_sigmask(signal.SIG_UNBLOCK, ENDING))
+            self.child = subprocess.Popen(
+                shlex.split(command) if command else RUNNER, stdin=subprocess.PIPE, stdout=subprocess.PIPE, start_new_session=True,
+                preexec_fn=lambda: signal.pthread_sigmask(signal.SIG_UNBLOCK, ENDING))
         except (OSError, ValueError) as error:
             raise Trouble(f"{self.name} can't be run: {getattr(error, 'strerror', None) or error}") from None
 

@@ -3,7 +3,8 @@ from collections import namedtuple
 
 from explain.following import HEADER
 from explain.names import FLAGS, MESSAGES, REFUSALS, count, listed, number
-from explain.wording import answer_words, effect_words, message_words, packet_words, record_words, slot_words, status_given, status_words
+from explain.wording import (answer_words, effect_words, message_words, packet_words, record_words, slot_words, status_given,
+                             status_words)
 from second.log import COMPLETE, PACKET, POLL
 from second.wire import CONTROL, is_sealed, message_header
 
@@ -60,9 +61,10 @@ def answer(event, about):
 
 def at_once(event):
     """A command whose response is there on entering Process: a test failed, and polls show the error."""
-    if event.tag == PACKET and event.answer == 1 and not event.differs and event.after.states[event.named] in ("Process answered", "Transmit"):
-        return "; answered at once with an error, which polls hand out"
-    return ""
+    if (event.tag, event.answer) != (PACKET, 1) or event.differs:
+        return ""
+    is_there = event.after.states[event.named] in ("Process answered", "Transmit")
+    return "; answered at once with an error, which polls hand out" if is_there else ""
 
 
 def store_words(event, before, after):
@@ -118,7 +120,8 @@ def look_lines(state, view, lent):
     word = int(fields["flags"], 16)
     flags = [f"bit {bit} ({FLAGS[bit]})" for bit in FLAGS if word >> bit & 1]
     last = "a control reply" if fields["last"] == "1" else "no control reply"
-    return [f"EID {fields['eid']}, packets of {fields['unit']} payload bytes, flags {fields['flags']}h: {listed(flags) or 'none is set'}",
+    return [f"EID {fields['eid']}, packets of {fields['unit']} payload bytes, flags {fields['flags']}h: "
+            f"{listed(flags) or 'none is set'}",
             f"slot {fields['turn']} goes first when no response is begun; the last packet handed out was {last}",
             reply_line(view.reply), *(slot_line(fields, view, slot, lent[slot]) for slot in (0, 1))]
 
