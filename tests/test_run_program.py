@@ -113,8 +113,8 @@ class Case(unittest.TestCase):
 
     @staticmethod
     def close(child):
-        child.kill()
-        child.communicate()
+        child.terminate()
+        child.communicate(timeout=10)
 
     def shell(self, line):
         """A line of shell in the repository, for redirections."""
@@ -365,15 +365,16 @@ class Signals(Case):
     NUMBERS = {signal.SIGTERM: 143, signal.SIGINT: 130, signal.SIGHUP: 129}
 
     def left(self, session):
-        """The processes of a session."""
+        """The names and states of the processes of a session."""
         found = []
         for folder in pathlib.Path("/proc").glob("[0-9]*"):
             try:
-                fields = (folder / "stat").read_text().rpartition(")")[2].split()
+                front, _, fields = (folder / "stat").read_text().rpartition(") ")
             except OSError:
                 continue
-            if int(fields[3]) == session and fields[0] != "Z":
-                found.append((folder.name, fields))
+            state, _, _, of = fields.split()[:4]
+            if int(of) == session and state != "Z":
+                found.append((front.partition("(")[2], state))
         return found
 
     def ended_by(self, number, started, least):
@@ -393,8 +394,7 @@ class Signals(Case):
     def test_while_it_runs(self):
         self.run_it()
         for number in self.NUMBERS:
-            self.ended_by(number, lambda child: any("cat" in (pathlib.Path("/proc") / name / "comm").read_text()
-                                                    for name, _ in self.left(child.pid)), 3)
+            self.ended_by(number, lambda child: "cat" in (name for name, _ in self.left(child.pid)), 3)
 
     def test_while_it_waits_for_the_lock(self):
         for names in ((), ("flock",)):
@@ -402,7 +402,7 @@ class Signals(Case):
             self.kit(SLOW)
             first = self.start(start_new_session=True)
             self.until(lambda: "started" in self.notes)
-            self.ended_by(signal.SIGTERM, lambda child: True, 2)
+            self.ended_by(signal.SIGTERM, lambda child: b"waiting for" in child.stderr.readline(), 1)
             first.terminate()
             first.wait(10)
             self.until(lambda: not self.left(first.pid))
