@@ -4,9 +4,7 @@ use crate::line::field;
 use crate::line::hex;
 use crate::line::hex_number;
 use crate::line::say;
-use machine::Assembly;
 use machine::Endpoint;
-use machine::Outgoing;
 use machine::Phase;
 use machine::Request;
 use machine::Response;
@@ -18,11 +16,9 @@ fn flag(b: bool) -> u64 {
     if b { 1 } else { 0 }
 }
 
-fn assembly_words(on: bool, assembly: Assembly) -> bool {
-    let on = field(on, b"receive:", byte(assembly.source));
-    let on = field(on, b":", byte(assembly.tag));
-    let on = field(on, b":", byte(assembly.sequence));
-    field(on, b":", assembly.length as u64)
+// A word, and three numbers behind it.
+fn three(on: bool, word: &[u8], a: u64, b: u64, c: u64) -> bool {
+    field(field(field(on, word, a), b":", b), b":", c)
 }
 
 fn taking_words(on: bool, taking: Taking) -> bool {
@@ -32,35 +28,38 @@ fn taking_words(on: bool, taking: Taking) -> bool {
     }
 }
 
-fn request_words(on: bool, request: Request) -> bool {
-    let on = field(on, b"process:", byte(request.source));
-    let on = field(on, b":", byte(request.tag));
-    let on = field(on, b":", byte(request.kind));
-    let on = field(on, b":", request.length as u64);
-    let taking = request.taking;
-    taking_words(on, taking)
+// A command: from whom, under which tag, its kind and length, and whether it was taken.
+fn request_words(on: bool, r: Request) -> bool {
+    let on = three(on, b"process:", byte(r.source), byte(r.tag), byte(r.kind));
+    let taking = r.taking;
+    taking_words(field(on, b":", r.length as u64), taking)
 }
 
 // A response under the name of its slot's state.
-fn response_words(on: bool, name: &[u8], response: Response) -> bool {
-    let on = field(on, name, byte(response.requester));
-    let on = field(on, b":", byte(response.tag));
-    field(on, b":", response.length as u64)
-}
-
-fn outgoing_words(on: bool, outgoing: Outgoing) -> bool {
-    let response = outgoing.response;
-    let on = response_words(on, b"transmit:", response);
-    field(on, b":", outgoing.sent as u64)
+fn response_words(on: bool, name: &[u8], r: Response) -> bool {
+    three(on, name, byte(r.requester), byte(r.tag), r.length as u64)
 }
 
 fn phase_words(on: bool, phase: Phase) -> bool {
     match phase {
         Phase::Idle => say(on, b"idle"),
-        Phase::Receive(assembly) => assembly_words(on, assembly),
+        Phase::Receive(a) => {
+            let on = three(
+                on,
+                b"receive:",
+                byte(a.source),
+                byte(a.tag),
+                byte(a.sequence),
+            );
+            field(on, b":", a.length as u64)
+        }
         Phase::Process(request) => request_words(on, request),
         Phase::Answered(response) => response_words(on, b"answered:", response),
-        Phase::Transmit(outgoing) => outgoing_words(on, outgoing),
+        Phase::Transmit(outgoing) => {
+            let response = outgoing.response;
+            let on = response_words(on, b"transmit:", response);
+            field(on, b":", outgoing.sent as u64)
+        }
     }
 }
 
@@ -74,34 +73,42 @@ fn slot_words(on: bool, name: &[u8], slot: Slot) -> bool {
 }
 
 // The control reply that waits: for whom, under which message tag, its bytes.
-fn reply_words(on: bool, endpoint: Endpoint) -> bool {
-    let reply = endpoint.reply;
-    if !endpoint.reply_waits {
+fn reply_words(on: bool, waits: bool, to: u8, tag: u8, reply: &[u8]) -> bool {
+    if !waits {
         return say(on, b" reply=-");
     }
-    let on = field(on, b" reply=", byte(endpoint.reply_to));
-    let on = field(on, b":", byte(endpoint.reply_tag));
-    hex(say(on, b":"), &reply)
+    let on = field(on, b" reply=", byte(to));
+    let on = field(on, b":", byte(tag));
+    hex(say(on, b":"), reply)
 }
 
-fn endpoint_words(on: bool, endpoint: Endpoint) -> bool {
-    let on = field(on, b"eid=", byte(endpoint.eid));
+fn number_words(on: bool, eid: u8, flags: u16, turn: usize, last_control: bool) -> bool {
+    let on = field(on, b"eid=", byte(eid));
     let on = field(on, b" unit=", UNIT as u64);
-    let on = hex_number(say(on, b" flags="), endpoint.flags as u64, 4);
-    let on = field(on, b" turn=", endpoint.turn as u64);
-    let on = field(on, b" last=", flag(endpoint.last_control));
-    let on = reply_words(on, endpoint);
-    let on = slot_words(on, b" slot0=", endpoint.slots[0]);
-    slot_words(on, b" slot1=", endpoint.slots[1])
-}
-
-fn check_words(on: bool, name: &[u8], store: &[u8]) -> bool {
-    hex_number(say(on, name), crc32c::crc32c(store) as u64, 8)
+    let on = hex_number(say(on, b" flags="), flags as u64, 4);
+    let on = field(on, b" turn=", turn as u64);
+    field(on, b" last=", flag(last_control))
 }
 
 // The state, and what is lent beside it.
 pub fn look(on: bool, endpoint: Endpoint, store0: &[u8], store1: &[u8]) -> bool {
-    let on = endpoint_words(on, endpoint);
-    let on = check_words(on, b" check0=", store0);
-    check_words(on, b" check1=", store1)
+    let on = number_words(
+        on,
+        endpoint.eid,
+        endpoint.flags,
+        endpoint.turn,
+        endpoint.last_control,
+    );
+    let reply = endpoint.reply;
+    let on = reply_words(
+        on,
+        endpoint.reply_waits,
+        endpoint.reply_to,
+        endpoint.reply_tag,
+        &reply,
+    );
+    let on = slot_words(on, b" slot0=", endpoint.slots[0]);
+    let on = slot_words(on, b" slot1=", endpoint.slots[1]);
+    let on = hex_number(say(on, b" check0="), crc32c::crc32c(store0) as u64, 8);
+    hex_number(say(on, b" check1="), crc32c::crc32c(store1) as u64, 8)
 }

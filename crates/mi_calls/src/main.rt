@@ -7,6 +7,7 @@ mod record;
 mod words;
 
 ghost use mathlib.Core.Path.{_≡_};
+ghost use mathlib.Core.Bool.{true, false};
 ghost use Prim.Native.Nat.{_+_, _≤_};
 ghost use lib.ListN.{length};
 ghost use Rattle.machine.specs.Valid.{Valid};
@@ -77,15 +78,13 @@ struct Session {
     on: bool,
 }
 
-// Tells that a read or a write failed.
-fn tell(what: &[u8]) {
-    io::write_all(libc::STDERR_FILENO, what);
-}
-
 // What ends the program where a record is wanted: a read that failed is told, and a record that is none prints `bad`.
 fn broken(failed: bool) {
     if failed {
-        tell(b"mi_calls: standard input can not be read\n");
+        io::write_all(
+            libc::STDERR_FILENO,
+            b"mi_calls: standard input can not be read\n",
+        );
     } else {
         say(true, b"bad\n");
     }
@@ -95,30 +94,39 @@ fn broken(failed: bool) {
 fn line_end(on: bool) -> bool {
     let whole = say(on, b"\n");
     if !whole {
-        tell(b"mi_calls: standard output can not be written\n");
+        io::write_all(
+            libc::STDERR_FILENO,
+            b"mi_calls: standard output can not be written; lines are missing\n",
+        );
     }
     whole
 }
 
-// The lent lengths from here on. One above the memory's, of which there are m0 and m1 bytes, is `bad`.
-fn lent_anew(session: Session, m0: usize, m1: usize, body: &[u8]) -> Session
-    requires { ⌜ Valid (session .endpoint) × (session .length0 ≤ m0) × (session .length1 ≤ m1) × (4 ≤ length (now body)) ⌝ }
-    ensures { λ r. ⌜ Valid (r .endpoint) × (r .length0 ≤ m0) × (r .length1 ≤ m1) ⌝ }
+// How much of each store is lent from here on, of m0 and m1 bytes of memory. More than that is `bad`.
+struct Lengths {
+    length0: usize,
+    length1: usize,
+    on: bool,
+}
+
+fn lent_anew(m0: usize, m1: usize, body: &[u8]) -> Lengths
+    requires { ⌜ 4 ≤ length (now body) ⌝ }
+    ensures { λ r. ⌜ (r .length0 ≤ m0) × (r .length1 ≤ m1) ⌝ }
 {
     let length0 = half(body, 0);
     let length1 = half(body, 2);
     if length0 > m0 || length1 > m1 {
         broken(false);
-        return Session {
+        return Lengths {
+            length0: 0,
+            length1: 0,
             on: false,
-            ..session
         };
     }
-    Session {
+    Lengths {
         length0,
         length1,
         on: line_end(say(true, b"0")),
-        ..session
     }
 }
 
@@ -128,7 +136,13 @@ fn recorded(session: Session, store0: &mut [u8], store1: &mut [u8], tag: u8, bod
     ensures { λ r. ⌜ Valid (r .endpoint) × (r .length0 ≤ length (now (store0 .exit))) × (r .length1 ≤ length (now (store1 .exit))) ⌝ }
 {
     if tag == STORES {
-        return lent_anew(session, store0.len(), store1.len(), body);
+        let anew = lent_anew(store0.len(), store1.len(), body);
+        return Session {
+            length0: anew.length0,
+            length1: anew.length1,
+            on: anew.on,
+            ..session
+        };
     }
     let n0 = session.length0;
     let n1 = session.length1;
@@ -143,51 +157,71 @@ fn recorded(session: Session, store0: &mut [u8], store1: &mut [u8], tag: u8, bod
     }
 }
 
-// Reads the rest of a record, and does what it says.
-fn one(session: Session, store0: &mut [u8], store1: &mut [u8], tag: u8, body: &mut [u8]) -> Session
-    requires { ⌜ Valid (session .endpoint) × (session .length0 ≤ length (now store0)) × (session .length1 ≤ length (now store1)) × (leastSize tag ≤ length (now body)) ⌝ }
-    ensures { λ r. ⌜ Valid (r .endpoint) × (r .length0 ≤ length (now (store0 .exit))) × (r .length1 ≤ length (now (store1 .exit))) ⌝ }
-{
-    let got = filled(body);
-    if got.count < body.len() {
-        broken(got.failed);
-        return Session {
-            on: false,
-            ..session
-        };
-    }
-    recorded(session, store0, store1, tag, body)
+// The next record, whose bytes are at the front of the space; or there is none.
+struct Next {
+    tag: u8,
+    size: usize,
+    on: bool,
 }
 
-// One record. The end of the input between records is silent.
-fn turn(session: Session, store0: &mut [u8], store1: &mut [u8]) -> Session
-    requires { ⌜ Valid (session .endpoint) × (session .length0 ≤ length (now store0)) × (session .length1 ≤ length (now store1)) ⌝ }
-    ensures { λ r. ⌜ Valid (r .endpoint) × (r .length0 ≤ length (now (store0 .exit))) × (r .length1 ≤ length (now (store1 .exit))) ⌝ }
+fn none() -> Next
+    ensures { λ r. ⌜ r .on ≡ false ⌝ }
+{
+    Next {
+        tag: 0,
+        size: 0,
+        on: false,
+    }
+}
+
+// Reads a record. The end of the input between records is silent.
+fn next_record(space: &mut [u8]) -> Next
+    requires { ⌜ 65536 ≤ length (now space) ⌝ }
+    ensures { λ r. ⌜ (r .on ≡ true → (leastSize (r .tag) ≤ r .size) × (r .size ≤ 65535)) ⌝ }
 {
     let mut head = [0u8; HEAD_SIZE];
-    let mut space = io::large_buffer();
     let got = filled(&mut head);
     let tag = head[0];
-    let n = half(&head, 1);
+    let size = half(&head, 1);
     if got.count == 0 && !got.failed {
-        return Session {
-            on: false,
-            ..session
-        };
+        return none();
     }
-    if got.count < HEAD_SIZE || !is_record(tag, n) {
+    if got.count < HEAD_SIZE || !is_record(tag, size) {
         broken(got.failed);
+        return none();
+    }
+    let more = filled(&mut space[..size]);
+    if more.count < size {
+        broken(more.failed);
+        return none();
+    }
+    Next {
+        tag,
+        size,
+        on: true,
+    }
+}
+
+// One record.
+fn turn(session: Session, store0: &mut [u8], store1: &mut [u8], space: &mut [u8]) -> Session
+    requires { ⌜ Valid (session .endpoint) × (session .length0 ≤ length (now store0)) × (session .length1 ≤ length (now store1)) × (65536 ≤ length (now space)) ⌝ }
+    ensures { λ r. ⌜ Valid (r .endpoint) × (r .length0 ≤ length (now (store0 .exit))) × (r .length1 ≤ length (now (store1 .exit))) ⌝ }
+{
+    let next = next_record(space);
+    let size = next.size;
+    if !next.on {
         return Session {
             on: false,
             ..session
         };
     }
-    one(session, store0, store1, tag, &mut space[..n])
+    recorded(session, store0, store1, next.tag, &space[..size])
 }
 
 fn main() {
     let mut store0 = [0u8; MEMORY];
     let mut store1 = [0u8; MEMORY];
+    let mut space = io::large_buffer();
     let started = endpoint::setup(EID);
     let endpoint = started.endpoint;
     let mut session = Session {
@@ -198,7 +232,7 @@ fn main() {
     };
     let mut turns = u64::MAX;
     while turns > 0 && session.on {
-        session = turn(session, &mut store0, &mut store1);
+        session = turn(session, &mut store0, &mut store1, &mut space);
         turns -= 1;
     }
 }

@@ -130,24 +130,16 @@ fn read_words<'a>(endpoint: Endpoint, store0: &'a [u8], store1: &'a [u8], slot: 
     hex(say(number(true, part.len() as u64), b" "), part)
 }
 
-// The bytes from a place on are as they were before the poll.
-fn is_blank(buffer: &[u8], from: usize) -> bool {
+// Whether the bytes from a place on are as they were before the poll.
+fn blank_words(on: bool, buffer: &[u8], from: usize) -> bool {
     let mut i = from;
     while i < buffer.len() {
         if buffer[i] != BLANK {
-            return false;
+            return say(on, b" touched");
         }
         i += 1;
     }
-    true
-}
-
-fn blank_words(on: bool, buffer: &[u8], from: usize) -> bool {
-    if is_blank(buffer, from) {
-        say(on, b" stays")
-    } else {
-        say(on, b" touched")
-    }
+    say(on, b" stays")
 }
 
 // `1 LENGTH PACKET`.

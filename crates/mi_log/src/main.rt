@@ -43,10 +43,6 @@ fn shift(buf: &mut [u8], at: usize, n: usize)
     }
 }
 
-fn tell(what: &[u8]) {
-    io::write_all(libc::STDERR_FILENO, what);
-}
-
 // Where more input is wanted, moves what is unread to the front, and reads once behind it. A read that fails ends the run.
 fn refill(buf: &mut [u8], r: Run) -> Run
     requires { ⌜ (r .at ≤ r .end) × (r .end ≤ length (now buf)) ⌝ }
@@ -66,7 +62,10 @@ fn refill(buf: &mut [u8], r: Run) -> Run
     let got = libc::read(libc::STDIN_FILENO, t);
     let k = io::count(got, t);
     if got < 0 {
-        tell(b"mi_log: standard input can not be read\n");
+        io::write_all(
+            libc::STDERR_FILENO,
+            b"mi_log: standard input can not be read\n",
+        );
         return Run {
             at: 0,
             end: n,
@@ -88,7 +87,10 @@ fn refill(buf: &mut [u8], r: Run) -> Run
 fn written(out: &[u8]) -> bool {
     let whole = io::write_all(libc::STDOUT_FILENO, out);
     if !whole {
-        tell(b"mi_log: standard output can not be written; answers are missing\n");
+        io::write_all(
+            libc::STDERR_FILENO,
+            b"mi_log: standard output can not be written; answers are missing\n",
+        );
     }
     whole
 }

@@ -9,11 +9,19 @@ use Rattle.mi_calls.proofs.main.Statement.{statement}
 use Rattle.mi_calls.proofs.main.Tie as tie
 
 abbrev Inv-loop : tie.InvT-loop
-Inv-loop store0₀ store1₀ session₀ turns₀ store0 store1 session turns =
-    Valid (session .endpoint) × (session .length0 ≤ 4300) × (session .length1 ≤ 4300) × (length store0 ≡ 4300) × (length store1 ≡ 4300)
+Inv-loop store0₀ store1₀ space₀ session₀ turns₀ store0 store1 space session turns =
+    Valid (session .endpoint)
+    × (session .length0 ≤ 4300)
+    × (session .length1 ≤ 4300)
+    × (length store0 ≡ 4300)
+    × (length store1 ≡ 4300)
+    × (length space ≡ 65536)
 
 abbrev μ-loop : tie.MeasureT-loop
-μ-loop store0₀ store1₀ session₀ turns₀ store0 store1 session turns = turns
+μ-loop store0₀ store1₀ space₀ session₀ turns₀ store0 store1 space session turns = turns
 
 pub main-spec : {M : Type 1} → statement M
-main-spec = tie.close (tie.spec Inv-loop μ-loop (λ c κs. search needs) (λ c. search needs) (λ c. search needs) (λ c. search needs) (λ c κs. search needs) (λ c. search needs) (λ c. search needs) (λ c. search needs) (λ c. search needs) (λ c. search needs))
+main-spec =
+    tie.close
+    (tie.spec Inv-loop μ-loop (λ c κs. search needs) (λ c κs. search needs) (λ c. search needs) (λ c. search needs) (λ c. search needs) (λ c. search needs) (λ c κs. search needs)
+    (λ c. search needs) (λ c. search needs) (λ c. search needs) (λ c. search needs) (λ c. search needs))

@@ -8,12 +8,16 @@ use Rattle.mi_calls.proofs.recorded.Statement.{statement}
 use Rattle.mi_calls.proofs.recorded.Tie as tie
 
 lent-anew-requires : tie.Need-lent-anew-requires
-lent-anew-requires c κs =
-    let start = c .before .before .before .before in
-    (search needs, search needs, search needs, at-least 17 (c .if1 .taken) (start .pre .3))
+lent-anew-requires c κs = let start = c .before .before .before .before in at-least 17 (c .if1 .taken) (start .pre .3)
+
+part-length : tie.Need-slice-aggregate-lent0
+part-length c = simp length-take (omega arith)
+
+part-length-2 : tie.Need-slice-aggregate-lent1
+part-length-2 c = simp length-take (omega arith)
 
 pub recorded-spec : {M : Type 1} → statement M
 recorded-spec =
     tie.close
-    (tie.spec lent-anew-requires (λ c. search needs) (λ c. search needs) (λ c. simp length-take (omega arith)) (λ c. search needs)
-    (λ c. simp length-take (omega arith)) (λ c κs. search needs) (λ c κs. search needs) (λ c. search needs) (λ c. search needs) (λ c. search needs))
+    (tie.spec lent-anew-requires (λ c. search needs) (λ c. search needs) part-length (λ c. search needs) part-length-2
+    (λ c κs. search needs) (λ c κs. search needs) (λ c. search needs) (λ c. search needs) (λ c. search needs))
