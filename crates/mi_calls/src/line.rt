@@ -1,32 +1,32 @@
 // The words of a line, written one after the other. `on` says that all writes so far were whole: once one has failed nothing more is written.
 ghost use mathlib.Core.Path.{_≡_};
 
-pub fn say(on: bool, text: &[u8]) -> bool {
+pub(crate) fn say(on: bool, text: &[u8]) -> bool {
     on && io::write_all(libc::STDOUT_FILENO, text)
 }
 
-pub fn number(on: bool, n: u64) -> bool {
+pub(crate) fn number(on: bool, n: u64) -> bool {
     on && io::print_decimal(libc::STDOUT_FILENO, n)
 }
 
 // A number in hex, of at least so many digits.
-pub fn hex_number(on: bool, n: u64, width: usize) -> bool {
+pub(crate) fn hex_number(on: bool, n: u64, width: usize) -> bool {
     on && io::print_hex(libc::STDOUT_FILENO, n, width)
 }
 
 // A word, and a number behind it.
-pub fn field(on: bool, word: &[u8], n: u64) -> bool {
+pub(crate) fn field(on: bool, word: &[u8], n: u64) -> bool {
     number(say(on, word), n)
 }
 
-pub fn byte(n: u8) -> u64
+pub(crate) fn byte(n: u8) -> u64
     ensures { λ r. ⌜ r ≡ n ⌝ }
 {
     n as u64
 }
 
 // Bytes in hex, `-` where there are none.
-pub fn hex(on: bool, bytes: &[u8]) -> bool {
+pub(crate) fn hex(on: bool, bytes: &[u8]) -> bool {
     if bytes.len() == 0 {
         return say(on, b"-");
     }

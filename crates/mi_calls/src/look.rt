@@ -91,7 +91,7 @@ fn number_words(on: bool, eid: u8, flags: u16, turn: usize, last_control: bool) 
 }
 
 // The state, and what is lent beside it.
-pub fn look(on: bool, endpoint: Endpoint, store0: &[u8], store1: &[u8]) -> bool {
+pub(crate) fn look(on: bool, endpoint: Endpoint, store0: &[u8], store1: &[u8]) -> bool {
     let on = number_words(
         on,
         endpoint.eid,

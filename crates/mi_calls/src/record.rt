@@ -85,7 +85,7 @@ fn most_size(tag: u8) -> usize {
 }
 
 // A record with this tag may have this length.
-pub fn is_record(tag: u8, n: usize) -> bool
+pub(crate) fn is_record(tag: u8, n: usize) -> bool
     ensures { λ r. ⌜ (r ≡ true → leastSize tag ≤ n) ⌝ }
 {
     least_size(tag) <= n && n <= most_size(tag)
@@ -212,7 +212,7 @@ fn numbered(endpoint: Endpoint, store0: &mut [u8], store1: &mut [u8], tag: u8, b
 }
 
 // A call on the lent parts of the stores, and its words.
-pub fn called(
+pub(crate) fn called(
     endpoint: Endpoint,
     store0: &mut [u8],
     store1: &mut [u8],

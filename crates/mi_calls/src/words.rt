@@ -9,7 +9,7 @@ fn wide(b: u8) -> usize
 }
 
 // The number of two bytes.
-pub fn half(bytes: &[u8], at: usize) -> usize
+pub(crate) fn half(bytes: &[u8], at: usize) -> usize
     requires { ⌜ at + 2 ≤ length (now bytes) ⌝ }
     ensures { λ r. ⌜ r < 65536 ⌝ }
 {
@@ -17,7 +17,7 @@ pub fn half(bytes: &[u8], at: usize) -> usize
 }
 
 // The number of four bytes.
-pub fn word(bytes: &[u8], at: usize) -> usize
+pub(crate) fn word(bytes: &[u8], at: usize) -> usize
     requires { ⌜ at + 4 ≤ length (now bytes) ⌝ }
     ensures { λ r. ⌜ r < 4294967296 ⌝ }
 {
