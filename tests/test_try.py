@@ -347,7 +347,8 @@ class Tool(unittest.TestCase):
         self.ended(self.run_it(program="echo x"), 1, "a look printed 'x', which is no state")
 
     def test_outputs(self):
-        self.ended(self.run_it(given="poll\n", stdout=open("/dev/full", "w")), 1, "the output can't be written: No space left")
+        with open("/dev/full", "w") as full:
+            self.ended(self.run_it(given="poll\n", stdout=full), 1, "the output can't be written: No space left")
         for redirection, words in ((">&-", "standard output is closed"), ("<&-", "standard input is closed")):
             ran = subprocess.run(["bash", "-c", f'"$0" --program "$1" {redirection}', ROOT / "mi-try", SECOND], capture_output=True,
                                  text=True, timeout=20)
