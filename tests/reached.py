@@ -8,7 +8,8 @@ import runs
 from runs import STATES, Run, has_begun, in_transmit, is_paused
 from second.endpoint import STORE, Process
 from second.log import COMPLETE, LENGTHS, PACKET, POLL, RESET, TAKE, TIMEOUT, Log, records
-from second.wire import ABORT, GET_STATE, PAUSE, PAYLOAD, RESUME, control_request, message_header, packet_fields
+from second.wire import (ABORT, CRC_TABLE, GET_STATE, PAUSE, PAYLOAD, RESUME, control_request, message_header,
+                         packet_fields)
 
 PRIMITIVES = {PAUSE: "Pause", RESUME: "Resume", ABORT: "Abort", GET_STATE: "Get State"}
 ANSWERS = {"receive": (0, 1, 2, *range(10, 24)), "poll": (0, 1), "timeout": (0, 30, 37),
@@ -16,6 +17,7 @@ ANSWERS = {"receive": (0, 1, 2, *range(10, 24)), "poll": (0, 1), "timeout": (0, 
 SIZES = (3, 4, 56, 57, 4216, 4217)
 FLAG_BITS = (3, *range(4, 13), 14)
 PAUSE_BIT = 15
+ALL_ENTRIES = "all 256 entries of the check's table for {}"
 FAULTS = ("an unknown tag", "a wrong length", "a length over 4,300", "a cut record")
 
 # The goals
@@ -69,11 +71,21 @@ def endpoint_goals():
     yield "16 for a packet that is not the first"
     yield "15 for ROR"
     yield "a first packet with each sequence number"
+    yield from (ALL_ENTRIES.format(message) for message in ("a request", "a response"))
     yield from (f"bad for {fault}" for fault in FAULTS)
 
 GOALS = (*call_goals(), *slot_goals(0), *slot_goals(1), *endpoint_goals())
 
 # What a log reaches
+
+def entries_of(data):
+    """The entries of the check's table, by number, that the check of these bytes looks up."""
+    register, entries = 0xFFFFFFFF, set()
+    for byte in data:
+        entry = (register ^ byte) & 0xFF
+        entries.add(entry)
+        register = register >> 8 ^ CRC_TABLE[entry]
+    return entries
 
 class LogRun(Run):
     """One log under way."""
@@ -153,11 +165,18 @@ class LogRun(Run):
         job = self.endpoint.jobs[slot]
         if isinstance(job, Process):
             self.note(f"slot {slot}: 66-packet request received", job.length > STORE - PAYLOAD)
+            self.checked("a request", slot, job.length - 4)
         else:                             # answered at once: the response tells the ground
             status, place = self.endpoint.stores[slot][4], self.endpoint.stores[slot][6]
             ground = "size" if status == 5 else "NMIMT" if place == 1 else "MEB"
             self.note(f"slot {slot}: answered at once for {ground}, CIAP {header.ciap}")
         self.note(f"slot {other}: CIAP of the other slot's command in {before.state(other)}", header.ciap)
+
+    def checked(self, message, slot, length):
+        """The check of so many bytes of the slot's store was computed; only long messages are looked at."""
+        goal = ALL_ENTRIES.format(message)
+        if length > STORE - PAYLOAD - 4 and goal not in self.reached:
+            self.note(goal, len(entries_of(self.endpoint.stores[slot][:length])) == 256)
 
     # Control primitives
 
@@ -241,6 +260,8 @@ class LogRun(Run):
         self.note(f"complete answers {line}")
         self.note(f"slot {slot}: complete with {size} bytes", line in ("0", "35") and size in SIZES)
         self.note(f"slot {slot}: completed while paused", line == "0" and is_paused(before, slot))
+        if line == "0":
+            self.checked("a response", slot, size + 4)
         self.note(f"slot {slot}: stale ticket, {line}",
                   line in ("31", "32") and slot in self.program.taken)
 

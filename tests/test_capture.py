@@ -850,8 +850,10 @@ class Surroundings(Case):
         self.assertEqual((ran.returncode, ran.stdout), (0, record(PACKET)))
 
     def test_stopped(self):
+        # a shell that starts the tests in the background has its children ignore the signal
         with subprocess.Popen([sys.executable, "-B", TOOL, "from-hex", "-", "-o", self.folder / "o"], stdin=subprocess.PIPE,
-                              stderr=subprocess.PIPE) as running:
+                              stderr=subprocess.PIPE,
+                              preexec_fn=lambda: signal.signal(signal.SIGINT, signal.default_int_handler)) as running:
             running.stdin.write(b"words\n")
             running.stdin.flush()
             self.assertIn(b"line 1: not read", running.stderr.readline())

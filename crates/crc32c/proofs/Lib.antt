@@ -1,1 +1,4 @@
+pub mod Xor
+pub mod Entries
 pub mod Same
+pub mod LookUp

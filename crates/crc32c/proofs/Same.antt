@@ -3,7 +3,7 @@
 use mathlib.Core.Path.{_≡_, refl, sym, ap, ap₂, _∙_}
 use mathlib.Core.List.{List, [], _∷_}
 use Prim.Native.Nat.{ℕ, zero, suc, _+_, _*_, _/_, _%_, _^_, _<_}
-use native.Mathlib.Nat.{mod-lt, mul-assoc, add-zero, zero-add, add-suc, suc-add, pow-suc, le-of-suc-le-suc, not-suc-le-zero, zero-lt-suc, mul-div-cancel, mul-mod-left}
+use native.Mathlib.Nat.{mul-assoc, zero-add, pow-suc, zero-lt-suc, mul-div-cancel, mul-mod-left}
 use native.Mathlib.Numerals.{add-one, one-add}
 use native.Mathlib.Omega.{arith}
 use lib.Arith.{digits-lt, digits-div, digits-mod}
@@ -13,9 +13,8 @@ use lib.Bits.{bitXor, xor-shr, xor-mod, xor-block, xor-lt}
 use lib.Dec.{lit<}
 use Rattle.crc32c.specs.Crc32c.{reflect, polynomial, start, step, steps, register, crc32c}
 use Rattle.crc32c.specs.Reflected.{reversed, bitStep, bitSteps, byteStep, through}
-
-low : (a : ℕ) → a % 2 < 2
-low a = mod-lt a (zero-lt-suc 1)
+use Rattle.crc32c.proofs.Xor.{low, of-bits}
+use Rattle.crc32c.proofs.Entries.{entries, at-each}
 
 reflect-lt : (n x : ℕ) → reflect n x < 2 ^ n
 unfolding reflect
@@ -52,9 +51,7 @@ reflect-top (suc n) x =
 -- the polynomial, added or not
 feedback : (t : ℕ) → t < 2 → reflect 32 (t * polynomial) ≡ t * reversed
 unfolding reflect
-feedback zero h = refl
-feedback (suc zero) h = refl
-feedback (suc (suc t)) h = absurd (not-suc-le-zero (le-of-suc-le-suc (le-of-suc-le-suc h)))
+feedback = of-bits (λ (t : ℕ). reflect 32 (t * polynomial) ≡ t * reversed) refl refl
 
 doubled : (x : ℕ) → reflect 32 (x * 2) ≡ reflect 31 x
 unfolding reflect
@@ -73,21 +70,10 @@ reflect-step x =
     (ap (λ (k : ℕ). k / 2) (reflect-top 31 x) ∙ digits-div (reflect 31 x) (low (x / 2 ^ 31)))
     (ap (λ (k : ℕ). k % 2) (reflect-top 31 x) ∙ digits-mod (reflect 31 x) (low (x / 2 ^ 31))))
 
-reflect-steps : (n x : ℕ) → reflect 32 (steps n x) ≡ bitSteps n (reflect 32 x)
+pub reflect-steps : (n x : ℕ) → reflect 32 (steps n x) ≡ bitSteps n (reflect 32 x)
 unfolding steps bitSteps
 reflect-steps zero x = refl
 reflect-steps (suc n) x = reflect-steps n (step x) ∙ ap (bitSteps n) (reflect-step x)
-
--- f at n numbers from i on
-unfoldable entries : (ℕ → ℕ) → ℕ → ℕ → List ℕ
-entries f zero i = []
-entries f (suc n) i = f i ∷ entries f n (suc i)
-
-getD-entries : (f : ℕ → ℕ) (n i k : ℕ) → k < n → getD (entries f n i) k 0 ≡ f (i + k)
-unfolding entries
-getD-entries f zero i k h = absurd (not-suc-le-zero h)
-getD-entries f (suc n) i zero h = ap f (sym (add-zero i))
-getD-entries f (suc n) i (suc k) h = getD-entries f n (suc i) k (le-of-suc-le-suc h) ∙ ap f (suc-add i k ∙ sym (add-suc i k))
 
 -- a byte, reflected at the top of the register, is the byte at the low end once the register is reflected
 abbrev at-top : ℕ → ℕ
@@ -98,13 +84,8 @@ bytes : entries at-top 256 0 ≡ entries (λ b. b) 256 0
 unfolding entries reflect
 bytes = refl
 
-byte : (b : ℕ) → b < 256 → at-top b ≡ b
-byte b h =
-    ap at-top (sym (zero-add b))
-    ∙ sym (getD-entries at-top 256 0 b h)
-    ∙ ap (λ (l : List ℕ). getD l b 0) bytes
-    ∙ getD-entries (λ b. b) 256 0 b h
-    ∙ zero-add b
+pub byte : (b : ℕ) → b < 256 → reflect 32 (reflect 8 b * 2 ^ 24) ≡ b
+byte b h = sym (at-each at-top 256 (entries at-top 256 0) refl b h) ∙ at-each (λ b. b) 256 (entries at-top 256 0) bytes b h
 
 registers : (s : List ℕ) (x : ℕ) → ((i : ℕ) → getD s i 0 < 256) → reflect 32 (register x s) ≡ through (reflect 32 x) s
 unfolding register through byteStep

@@ -1,45 +1,40 @@
 // CRC-32C, the integrity check of a message.
-ghost use mathlib.Core.Path.{_≡_};
-ghost use Rattle.crc32c.specs.Crc32c.{crc32c as check};
-ghost use Rattle.crc32c.specs.Reflected.{bitStep, byteStep};
+mod table;
 
-// 1EDC6F41h with its bits in reverse order.
-const REVERSED: u32 = 0x82F6_3B78;
+use table::TABLE;
+ghost use mathlib.Core.Path.{_≡_};
+ghost use Rattle.crc32c.specs.Crc32c.{crc32c as check, start};
+ghost use Rattle.crc32c.specs.Reflected.{Table, byteStep, through};
 
 // The register before the first byte.
 const START: u32 = 0xFFFF_FFFF;
 
-// One bit: the register moves down, and where a one left it, the polynomial is added.
-fn bit_step(x: u32) -> u32
-    ensures { λ r. ⌜ r ≡ bitStep x ⌝ }
-{
-    (x >> 1) ^ (x % 2 * REVERSED)
-}
-
-// One byte is added at the low end, and eight bits follow.
-fn byte_step(x: u32, b: u8) -> u32
+// One byte is added at the low end, and eight bits follow: what is above them moves down, and the table has what they become.
+fn byte_step(table: &[u32; 256], x: u32, b: u8) -> u32
+    requires { ⌜ Table (now table) ⌝ }
     ensures { λ r. ⌜ r ≡ byteStep x b ⌝ }
 {
-    let x0 = x ^ (b as u32);
-    let x1 = bit_step(x0);
-    let x2 = bit_step(x1);
-    let x3 = bit_step(x2);
-    let x4 = bit_step(x3);
-    let x5 = bit_step(x4);
-    let x6 = bit_step(x5);
-    let x7 = bit_step(x6);
-    bit_step(x7)
+    let y = x ^ (b as u32);
+    (y >> 8) ^ table[(y % 256) as usize]
 }
 
-// The CRC-32C of all the bytes.
-pub fn crc32c(bytes: &[u8]) -> u32
-    ensures { λ r. ⌜ r ≡ check (now (bytes .entry)) ⌝ }
+// The register after all the bytes.
+fn register_after(table: &[u32; 256], bytes: &[u8]) -> u32
+    requires { ⌜ Table (now table) ⌝ }
+    ensures { λ r. ⌜ r ≡ through start (now (bytes .entry)) ⌝ }
 {
     let mut x = START;
     let mut i = 0;
     while i < bytes.len() {
-        x = byte_step(x, bytes[i]);
+        x = byte_step(table, x, bytes[i]);
         i += 1;
     }
-    x ^ 0xFFFF_FFFF
+    x
+}
+
+// The CRC-32C of all the bytes. The table is lent here, once a message: a constant array is stored anew wherever it is used.
+pub fn crc32c(bytes: &[u8]) -> u32
+    ensures { λ r. ⌜ r ≡ check (now (bytes .entry)) ⌝ }
+{
+    register_after(&TABLE, bytes) ^ 0xFFFF_FFFF
 }

@@ -1,48 +1,25 @@
--- `crc32c::crc32c` meets its contract. The loop keeps: the register has the bytes that were read; those left fall.
+-- `crc32c::crc32c` meets its contract: the constant is a table, and the register after the bytes, inverted, is the check.
 -- Assumes nothing.
-use mathlib.Core.Path.{_≡_, sym, ap, _∙_}
-use mathlib.Core.List.{List}
-use Prim.Native.Nat.{ℕ, _+_, _-_, _≤_, _<_}
-use native.Mathlib.Numerals.{add-one}
-use lib.ListN.{length, drop, getD, drop-of-length-le}
-use lib.Seq.{drop-cons}
+use mathlib.Core.Path.{refl, sym, ap, _∙_}
+use Prim.Native.Nat.{ℕ}
 use lib.Bits.{bitXor}
-use borrow.Author.Needs.{needs}
-use Rattle.crc32c.specs.Crc32c.{start}
-use Rattle.crc32c.specs.Reflected.{byteStep, through}
+use Rattle.crc32c.specs.Reflected.{bitStep, bitSteps, entry}
+use Rattle.crc32c.proofs.Entries.{entries}
 use Rattle.crc32c.proofs.Same.{same}
+use Rattle.crc32c.proofs.LookUp.{is-table}
 use Rattle.crc32c.proofs.crc32c.Statement.{statement}
 use Rattle.crc32c.proofs.crc32c.Tie as tie
 
--- what the register makes of the bytes that are left is what the first register makes of all
-abbrev Inv-loop : tie.InvT-loop
-Inv-loop s x₀ i₀ x i = (i ≤ length s) × (through x (drop i s) ≡ through start s)
+-- the test: all 256 entries of the constant are computed, and compared, at once
+register-after-requires : tie.Need-register-after-requires
+unfolding entries entry bitSteps bitStep
+register-after-requires c κs = is-table refl
 
-abbrev μ-loop : tie.MeasureT-loop
-μ-loop s x₀ i₀ x i = length s - i
-
-turn : (s : List ℕ) (x y i : ℕ) → i < length s → y ≡ byteStep x (getD s i 0) → through y (drop (i + 1) s) ≡ through x (drop i s)
-unfolding through
-turn s x y i h e = rw (add-one i, e, drop-cons s i 0 h)
-
-abbrev bytes-of : tie.At-loop Inv-loop μ-loop → List ℕ
-bytes-of at-loop = at-loop .before .before .args .bytes .now
-
-loop-again : tie.Need-loop-again Inv-loop μ-loop
-loop-again c =
-    let in-loop = c .before .before in
-    let l = in-loop .before .loop in
-    (search needs, turn (bytes-of (in-loop .before)) (l .x) (c .byte-step .result) (l .i) (in-loop .loop-test .taken) (c .byte-step .ensures) ∙ l .inv .1)
-
-returns : tie.Need-returns Inv-loop μ-loop
-unfolding through
+returns : tie.Need-returns
 returns c =
-    let at-loop = c .before in
-    let s = bytes-of at-loop in
-    ap (λ (y : ℕ). bitXor y 0xFFFFFFFF) (rw (drop-of-length-le s (c .loop-test .left)) at (at-loop .loop .inv .1))
-    ∙ sym (same s (λ i. at-loop .before .shared-slice-known .given i .fits))
+    let known = c .before .before in
+    ap (λ (x : ℕ). bitXor x 0xFFFFFFFF) (c .register-after .ensures)
+    ∙ sym (same (known .before .args .bytes .now) (λ i. known .shared-slice-known .given i .fits))
 
 pub crc32c-spec : {M : Type 1} → statement M
-crc32c-spec =
-    tie.close
-    (tie.spec Inv-loop μ-loop (λ c. search needs) (λ c. search needs) (λ c κs. search needs) (λ c. search needs) (λ c. search needs) loop-again returns)
+crc32c-spec = tie.close (tie.spec register-after-requires returns)
