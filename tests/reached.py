@@ -173,7 +173,8 @@ class LogRun(Run):
         self.note(f"slot {other}: CIAP of the other slot's command in {before.state(other)}", header.ciap)
 
     def checked(self, message, slot, length):
-        """The check of so many bytes of the slot's store was computed; only long messages are looked at."""
+        """The check of so many bytes of the slot's store was computed. Only long messages are looked at: a short one
+        has fewer bytes than the table has entries, and looking takes as long as the check."""
         goal = ALL_ENTRIES.format(message)
         if length > STORE - PAYLOAD - 4 and goal not in self.reached:
             self.note(goal, len(entries_of(self.endpoint.stores[slot][:length])) == 256)

@@ -850,10 +850,10 @@ class Surroundings(Case):
         self.assertEqual((ran.returncode, ran.stdout), (0, record(PACKET)))
 
     def test_stopped(self):
-        # a shell that starts the tests in the background has its children ignore the signal
+        # a shell that starts the tests in the background has its children ignore the signal, so it is set back
         with subprocess.Popen([sys.executable, "-B", TOOL, "from-hex", "-", "-o", self.folder / "o"], stdin=subprocess.PIPE,
                               stderr=subprocess.PIPE,
-                              preexec_fn=lambda: signal.signal(signal.SIGINT, signal.default_int_handler)) as running:
+                              preexec_fn=lambda: signal.signal(signal.SIGINT, signal.SIG_DFL)) as running:
             running.stdin.write(b"words\n")
             running.stdin.flush()
             self.assertIn(b"line 1: not read", running.stderr.readline())

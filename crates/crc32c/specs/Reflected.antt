@@ -28,7 +28,7 @@ unfoldable pub through : ℕ → List ℕ → ℕ
 through x [] = x
 through x (b ∷ bs) = through (byteStep x b) bs
 
--- the entry of a byte in the table: eight bits of a register that has this byte and nothing above it
+-- the entry of a byte in the table: eight single-bit steps of a register that has this byte and nothing above it
 unfoldable pub entry : ℕ → ℕ
 entry b = bitSteps 8 b
 

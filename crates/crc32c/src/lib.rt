@@ -9,7 +9,8 @@ ghost use Rattle.crc32c.specs.Reflected.{Table, byteStep, through};
 // The register before the first byte.
 const START: u32 = 0xFFFF_FFFF;
 
-// One byte is added at the low end, and eight bits follow: what is above them moves down, and the table has what they become.
+// One byte is added at the low end, and eight single-bit steps follow: the bits above the lowest eight move down, and the table has
+// what those eight become.
 fn byte_step(table: &[u32; 256], x: u32, b: u8) -> u32
     requires { ⌜ Table (now table) ⌝ }
     ensures { λ r. ⌜ r ≡ byteStep x b ⌝ }

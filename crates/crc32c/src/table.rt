@@ -1,5 +1,5 @@
-// For each byte, what eight bits make of a register that has this byte and nothing above it. The entry of 80h, one bit that is
-// shifted out last, is the polynomial 1EDC6F41h with its bits in reverse order.
+// For each byte, what eight single-bit steps make of a register that has this byte and nothing above it. The entry of 80h, one bit
+// that is shifted out last, is the polynomial 1EDC6F41h with its bits in reverse order.
 pub const TABLE: [u32; 256] = [
     0x0000_0000,
     0xF26B_8303,
