@@ -6,6 +6,10 @@ functions. Each function takes what is usual by default.
 from records import record
 from second import calls
 from second.endpoint import BUFFER, STORE
+from second.wire import PAYLOAD
+
+# The records that are for the requester
+REQUESTER_TAGS = range(calls.REQUESTER_SETUP, calls.REQUESTER_LOOK + 1)
 
 def receive(packet):
     return record(calls.RECEIVE, packet[3:])
@@ -36,3 +40,36 @@ def timeout(slot=0):
 
 RESET = record(calls.RESET)
 LOOK = record(calls.LOOK)
+
+
+# The requester
+
+def requester_setup(eid=8):
+    return record(calls.REQUESTER_SETUP, bytes((eid,)))
+
+def requester_store(length=STORE):
+    return record(calls.REQUESTER_STORE, calls.LENGTH.pack(length))
+
+def await_from(source=9, tag=1):
+    return record(calls.REQUESTER_AWAIT, bytes((source, tag)))
+
+def room(size):
+    """What a message of this size takes in a buffer: itself and four bytes for each packet."""
+    return size + 4 * -(-size // PAYLOAD)
+
+def cut_message(message, length=None, destination=8, tag=1):
+    """The buffer has just the length that the packets take, unless another is given."""
+    length = room(len(message)) if length is None else length
+    return record(calls.REQUESTER_CUT, calls.CUT.pack(destination, tag, length) + message)
+
+def primitive(opcode, slot=0, length=16, destination=8, tag=2, primitive_tag=0x5A, cpsp=0):
+    fields = destination, tag, slot, opcode, primitive_tag, cpsp, length
+    return record(calls.REQUESTER_PRIMITIVE, calls.PRIMITIVE.pack(*fields))
+
+def gather(packet):
+    return record(calls.REQUESTER_RECEIVE, packet[3:])
+
+def gather_all(packets):
+    return [gather(packet) for packet in packets]
+
+REQUESTER_LOOK = record(calls.REQUESTER_LOOK)

@@ -1,5 +1,7 @@
 """Lines of the calls program, for the descriptions of stored scripts; put together as `steps` does it."""
-from call_records import LOOK, receive, take
+from call_records import LOOK, REQUESTER_LOOK, gather_all, poll, receive, take
+from records import record
+from second import log
 from second.wire import crc32c
 from steps import MI_COMMAND, OTHER, response
 
@@ -27,13 +29,34 @@ def over(front, store):
     """The bytes of a store after its front was overwritten."""
     return front + store[len(front):]
 
+def lent_check(front, length):
+    """The check of so many bytes of a store that holds zeros behind its front."""
+    return crc32c(front.ljust(MEMORY, b"\0")[:length])
+
 def looks(slot0="idle", slot1="idle", tickets=(0, 0), paused=(0, 0), busy=(0, 0), eid=8, flags=0, turn=0,
           last=0, reply="-", store0=b"", store1=b"", lent=(4224, 4224)):
     """A look, and its line: that of a new endpoint but for what is given. Stores hold zeros behind the
     bytes that are given."""
-    check0, check1 = (crc32c(store.ljust(MEMORY, b"\0")[:length])
-                      for store, length in zip((store0, store1), lent))
+    check0, check1 = (lent_check(store, length) for store, length in zip((store0, store1), lent))
     return LOOK, (f"eid={eid} unit=64 flags={flags:04x} turn={turn} last={last} reply={reply} "
                   f"slot0={tickets[0]},{paused[0]},{busy[0]},{slot0} "
                   f"slot1={tickets[1]},{paused[1]},{busy[1]},{slot1} "
                   f"check0={check0:08x} check1={check1:08x}")
+
+def requester_looks(awaits="-", assembly="-", eid=8, store=b"", lent=4224):
+    """The same of the requester."""
+    return REQUESTER_LOOK, (f"eid={eid} unit=64 awaits={awaits} assembly={assembly} "
+                            f"check={lent_check(store, lent):08x}")
+
+# What the requester writes, and what it is given of the endpoint
+def written(packets):
+    """The line with which a command or a primitive was written: its packets, end to end."""
+    data = b"".join(packet[3:] for packet in packets)
+    return f"0 {len(data)} {data.hex()} stays"
+
+def carried(lines, last):
+    """Polls that hand out the packets of these lines of a log, and the requester's gathering of them;
+    `last` is what the last one is answered with."""
+    packets = [record(log.PACKET, bytes.fromhex(line.split()[1])) for line in lines]
+    return (([poll()] * len(lines), [polled(line) for line in lines]),
+            (gather_all(packets), [0] * (len(packets) - 1) + [last]))

@@ -4,10 +4,10 @@
     python3 differential.py [--quick] [--logs N] [--scripts N] [--records N] MI_LOG MI_CALLS
 
 MI_LOG reads a log on standard input, MI_CALLS a script. Each is run on every stored input
-(tests/logs, tests/scripts) and on random ones (200 logs and 60 scripts of 2,000 records each if no number
+(tests/logs, tests/scripts) and on random ones (200 logs and 75 scripts of 2,000 records each if no number
 is given; the seeds are 0, 1, 2 and so on). What the inputs reach is reported, and something on a list that
-is never reached is a failure too: equal outputs say little about a state that no input has seen. The exit
-status is 0 only if every output is equal and everything was reached, 1 if not, and 2 if nothing could be
+no random input reaches is a failure too: equal outputs say little about a state that no input has seen. The
+exit status is 0 only if every output is equal and everything was reached, 1 if not, and 2 if nothing could be
 compared.
 
 With --quick there are 20 random logs and 10 scripts of 500 records, and what they reach is not judged.
@@ -39,7 +39,7 @@ NOT_JUDGED = "goals are not judged in a quick run"
 Subject = collections.namedtuple("Subject", "program generate replay goals many few")
 
 SUBJECTS = {LOG.kind: Subject(LOG, generate, reached.replay, reached.GOALS, 200, 20),
-            CALLS.kind: Subject(CALLS, generate_calls, reached_calls.replay, reached_calls.GOALS, 60, 10)}
+            CALLS.kind: Subject(CALLS, generate_calls, reached_calls.replay, reached_calls.GOALS, 75, 10)}
 
 # What comparing an input gave: the goals that it reached, the faults found, the lines of its output.
 Result = collections.namedtuple("Result", "reached faults lines")
@@ -101,15 +101,15 @@ def started(pool, kind, path, inputs, count):
 # Reporting
 
 def unreached(kind, stored, random):
-    """Prints how many inputs reached each goal; the goals that none did."""
+    """Prints how many random inputs reached each goal; the goals that none did, whatever is stored."""
     goals = SUBJECTS[kind].goals
     by_stored = set().union(*(result.reached for result in stored))
-    counts = collections.Counter(goal for result in stored + random for goal in result.reached)
+    counts = collections.Counter(goal for result in random for goal in result.reached)
     missing = [goal for goal in goals if not counts[goal]]
     for goal in goals:
         print(f"{counts[goal]:5} {kind}: {goal}")
-    print(f"Reached {len(goals) - len(missing)} of {len(goals)} goals, "
-          f"{len(by_stored.intersection(goals))} of them by the stored {kind} alone.")
+    print(f"The random {kind} reached {len(goals) - len(missing)} of {len(goals)} goals, "
+          f"the stored ones {len(by_stored.intersection(goals))}.")
     for goal in missing:
         print(f"never reached: {goal}")
     return missing

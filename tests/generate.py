@@ -160,11 +160,15 @@ class Generator:
             self.write(records.packet(payload, to=0, **fields))
 
     def stray(self, source=None, tag=None):
-        """A packet in the middle of nothing, or a start that is refused for its payload."""
         if source is None:
             source, tag = self.key()
+        self.write(self.stray_packet(source=source, tag=tag))
+
+    def stray_packet(self, ror=0, **fields):
+        """A packet in the middle of nothing, or a start that is refused for its payload. `ror` is the right
+        one."""
         way = self.random.randrange(7)
-        payload, marks = records.command(64), dict(sequence=self.random.randrange(4))
+        payload, marks = records.command(64, ror=ror), dict(sequence=self.random.randrange(4))
         if way == 0:
             marks.update(som=0, eom=self.chance(2))
         elif way == 1:
@@ -174,12 +178,12 @@ class Generator:
         elif way == 3:
             payload = payload[:self.random.randrange(1, 8)]
         elif way == 4:
-            payload = records.command(20, ror=1)
+            payload = records.command(20, ror=1 - ror)
         elif way == 5:
-            payload = records.control(GET_STATE) + bytes(self.random.randrange(1, 5))
+            payload = records.control(GET_STATE, ror=ror) + bytes(self.random.randrange(1, 5))
         else:
-            payload = records.damaged(records.control(self.random.randrange(4)))
-        self.write(records.packet(payload, source=source, tag=tag, **marks))
+            payload = records.damaged(records.control(self.random.randrange(4), ror=ror))
+        return records.packet(payload, **marks, **fields)
 
     def control(self, opcode=None, slot=None):
         if opcode is None:

@@ -1,58 +1,115 @@
 """Every ground on which a call refuses, not only the one that is answered.
 
-A ground is the number that document 01 gives it and, where a number has several, a word. The functions
-give those that hold, in the document's order: the first is the one to be answered. BEHIND says which
-can hold behind a first one.
+A ground is the number that documents 01 and 02 give it and, where a number has several, a word. The functions
+give those that hold, in the documents' order: the first is the one to be answered. BEHIND says which can hold
+behind a first one.
 """
-from second.endpoint import Idle, Process, Receive, requester
+from call_records import room
+from second.endpoint import STORE, Idle, Process, Receive, requester
+from second.requester import GREATEST_TAG, SHORTEST_MESSAGE
 from second.wire import (CONTROL, LONGEST_MESSAGE, LONGEST_PACKET, PAYLOAD, is_sealed, message_header,
                          packet_fields)
 
 STORES = "40"
-FIRST = ("15 type", "16 first", "17", "15 ROR", "18", "19 primitive", "20", "19 one packet")
 LATER = ("21", "22", "16 later", "23", "19 whole")
 HEADER = ("10", "11", "12", "13", "14")
+PRIMITIVE_PACKET = room(12)
 
-BEHIND = {
-    "receive": {
-        STORES: (*HEADER, *FIRST, *LATER),
+def packet_behind(control, other):
+    """What can hold behind each ground of a packet. Behind 18 a control message has the grounds of `control`,
+    and any other message has 20 by the name of `other`."""
+    first = ("15 type", "16 first", "17", "15 ROR", "18", *control, other, "19 one packet")
+    return {
+        STORES: (*HEADER, *first, *LATER),
         # A packet of four bytes has a whole header.
         "10": ("12", "13", "14", "16 first", "17", "21", "22", "16 later"),
-        "11": ("12", "13", "14", *(ground for ground in FIRST if ground != "17"), *LATER),
-        "12": ("13", "14", *FIRST, *LATER), "13": ("14", *FIRST, *LATER), "14": (*FIRST, *LATER),
-        "15 type": FIRST[1:], "16 first": ("15 ROR", "18", "19 primitive", "20"),
-        "17": ("15 ROR", "18", "20"), "15 ROR": ("18", "19 primitive", "20", "19 one packet"),
-        "18": ("19 primitive",), "19 primitive": (), "20": ("19 one packet",), "19 one packet": (),
+        "11": ("12", "13", "14", *(ground for ground in first if ground != "17"), *LATER),
+        "12": ("13", "14", *first, *LATER), "13": ("14", *first, *LATER), "14": (*first, *LATER),
+        "15 type": first[1:], "16 first": ("15 ROR", "18", *control, other),
+        "17": ("15 ROR", "18", *control[1:], other), "15 ROR": first[4:],
+        "18": control, **{ground: control[i + 1:] for i, ground in enumerate(control)},
+        other: ("19 one packet",), "19 one packet": (),
         "21": ("16 later",), "22": ("16 later", "23", "19 whole"), "16 later": ("23",), "23": (),
-        "19 whole": ()},
+        "19 whole": ()}
+
+class EndpointEnd:
+    """The endpoint as a packet finds it. `memory` has the bytes of both stores, whatever is lent."""
+    to, ror = 1, 0
+    control, other = ("19 primitive",), "20"
+
+    def __init__(self, endpoint, memory):
+        self.endpoint, self.memory = endpoint, memory
+        self.eid, self.stores_fit = endpoint.eid, endpoint.stores_fit()
+
+    def refuses(self, header, who):
+        """Whether the slot is still not Idle after an assembly of this requester ended."""
+        job = self.endpoint.jobs[header.csi]
+        return not isinstance(job, Idle) and not (isinstance(job, Receive) and job.who == who)
+
+    def assembly(self, who):
+        """The last sequence and the bytes of what was gathered from there, or None."""
+        slot = self.endpoint.assembly(who)
+        if slot is None:
+            return None
+        job = self.endpoint.jobs[slot]
+        return job.sequence, bytes(self.memory[slot][:job.length])
+
+class RequesterEnd:
+    """The requester as a packet finds it. `memory` has the bytes of its store, whatever is lent."""
+    to, ror = 0, 1
+    control, other = ("19 reply", "20 reply"), "20 response"
+
+    def __init__(self, requester, memory):
+        self.requester, self.memory = requester, memory
+        self.eid, self.stores_fit = requester.eid, len(requester.store) == STORE
+
+    def refuses(self, _header, who):
+        """ "20 then means source and tag not awaited" """
+        return who != self.requester.awaited
+
+    def assembly(self, who):
+        assembly = self.requester.assembly
+        if assembly is None or who != self.requester.awaited:
+            return None
+        return assembly.sequence, bytes(self.memory[:assembly.length])
+
+BEHIND = {
+    "receive": packet_behind(EndpointEnd.control, EndpointEnd.other),
     "take": {"30": (), "31": ("33",), "33": ()},
     # A command that was answered at once was never taken.
     "complete": {STORES: ("30", "31", "32", "34", "35"), "30": ("35",), "31": ("32", "34", "35"),
                  "32": ("34", "35"), "34": ("35",), "35": ()},
     "poll": {STORES: ("36",), "36": ()},
     "timeout": {"30": (), "37 not in Receive": ("37 flag",), "37 flag": ()},
-    "read": {"slot": ("stores",), "stores": ("nothing taken",), "nothing taken": ()}}
+    "read": {"slot": ("stores",), "stores": ("nothing taken",), "nothing taken": ()},
+    "gather": packet_behind(RequesterEnd.control, RequesterEnd.other),
+    "await": {"41 tag": ()},
+    "cut": {"41 size": ("41 tag", "36"), "41 tag": ("36",), "36": ()},
+    "primitive": {"41 tag": ("30", "36"), "30": ("36",), "36": ()}}
 
 def holding(*grounds):
     """The grounds whose test is true, of (ground, test)."""
     return [ground for ground, holds in grounds if holds]
 
-# Receiving
+# Receiving, at either end
 
 def receive_grounds(endpoint, memory, packet):
-    """`memory` has the bytes of both stores, whatever is lent."""
-    found = holding((STORES, not endpoint.stores_fit()), ("10", len(packet) < 5),
+    return packet_grounds(EndpointEnd(endpoint, memory), packet)
+
+def gather_grounds(requester, memory, packet):
+    return packet_grounds(RequesterEnd(requester, memory), packet)
+
+def packet_grounds(end, packet):
+    found = holding((STORES, not end.stores_fit), ("10", len(packet) < 5),
                     ("11", len(packet) > LONGEST_PACKET))
     if len(packet) < 4:
         return found
     fields, payload = packet_fields(packet), packet[4:]
-    found += holding(("12", fields.version != 1), ("13", fields.destination != endpoint.eid),
-                     ("14", not fields.to))
-    if fields.som:
-        return found + first_grounds(endpoint, fields, payload)
-    return found + later_grounds(endpoint, memory, fields, payload)
+    found += holding(("12", fields.version != 1), ("13", fields.destination != end.eid),
+                     ("14", fields.to != end.to))
+    return found + (first_grounds if fields.som else later_grounds)(end, fields, payload)
 
-def first_grounds(endpoint, fields, payload):
+def first_grounds(end, fields, payload):
     found = holding(("15 type", payload and payload[0] != 0x84),
                     ("16 first", not fields.eom and len(payload) != PAYLOAD),
                     ("17", fields.eom and len(payload) < 8))
@@ -60,28 +117,25 @@ def first_grounds(endpoint, fields, payload):
         return found
     header = message_header(payload)
     wrong_check = len(payload) >= 8 and not is_sealed(payload)
-    found += holding(("15 ROR", header.ror))
+    refused = end.refuses(header, requester(fields))
+    found += holding(("15 ROR", header.ror != end.ror))
     if header.nmimt == CONTROL:
-        return found + holding(("18", not fields.eom or len(payload) != 12), ("19 primitive", wrong_check))
-    return found + holding(("20", is_busy(endpoint.jobs[header.csi], requester(fields))),
-                           ("19 one packet", fields.eom and wrong_check))
+        # 19, and 20 where control messages have it
+        return found + holding(("18", not fields.eom or len(payload) != 12),
+                               *zip(end.control, (wrong_check, refused)))
+    return found + holding((end.other, refused), ("19 one packet", fields.eom and wrong_check))
 
-def is_busy(job, who):
-    """Whether a slot that holds this job is still not Idle after an assembly of this requester ended."""
-    return not isinstance(job, Idle) and not (isinstance(job, Receive) and job.who == who)
-
-def later_grounds(endpoint, memory, fields, payload):
-    slot = endpoint.assembly(requester(fields))
+def later_grounds(end, fields, payload):
+    assembly = end.assembly(requester(fields))
     cut = not fields.eom and len(payload) != PAYLOAD
-    if slot is None:
+    if assembly is None:
         return holding(("21", True), ("16 later", cut))
-    job = endpoint.jobs[slot]
-    fits = job.length + len(payload) <= LONGEST_MESSAGE
-    return holding(("22", fields.sequence != (job.sequence + 1) % 4), ("16 later", cut), ("23", not fits),
-                   ("19 whole", payload and fields.eom and fits
-                    and not is_sealed(bytes(memory[slot][:job.length]) + payload)))
+    sequence, gathered = assembly
+    fits = len(gathered) + len(payload) <= LONGEST_MESSAGE
+    return holding(("22", fields.sequence != (sequence + 1) % 4), ("16 later", cut), ("23", not fits),
+                   ("19 whole", payload and fields.eom and fits and not is_sealed(gathered + payload)))
 
-# The other calls. `was_taken` says of each slot whether its last command was taken.
+# The endpoint's other calls. `was_taken` says of each slot whether its last command was taken.
 
 def is_gone(job):
     """ "not in Process, or its response is there" """
@@ -114,3 +168,15 @@ def read_grounds(endpoint, slot):
     job = endpoint.jobs[slot] if slot < 2 else None
     return holding(("slot", slot > 1), ("stores", not endpoint.stores_fit()),
                    ("nothing taken", slot < 2 and not (isinstance(job, Process) and job.taken)))
+
+# The requester's other calls
+
+def await_grounds(tag):
+    return holding(("41 tag", tag > GREATEST_TAG))
+
+def cut_grounds(tag, size, length):
+    return holding(("41 size", not SHORTEST_MESSAGE <= size <= LONGEST_MESSAGE),
+                   ("41 tag", tag > GREATEST_TAG), ("36", length < room(size)))
+
+def primitive_grounds(tag, slot, length):
+    return holding(("41 tag", tag > GREATEST_TAG), ("30", slot > 1), ("36", length < PRIMITIVE_PACKET))

@@ -5,7 +5,7 @@ ticket last taken is never that of an untaken command, short of 2^32 commands), 
 and stores are the log program's own).
 """
 import runs
-from runs import STATES, Run, has_begun, in_transmit, is_paused
+from runs import STATES, Run, entry_ground, has_begun, in_transmit, is_paused
 from second.endpoint import STORE, Process
 from second.log import COMPLETE, LENGTHS, PACKET, POLL, RESET, TAKE, TIMEOUT, Log, records
 from second.wire import (ABORT, CRC_TABLE, GET_STATE, PAUSE, PAYLOAD, RESUME, control_request, message_header,
@@ -167,8 +167,7 @@ class LogRun(Run):
             self.note(f"slot {slot}: 66-packet request received", job.length > STORE - PAYLOAD)
             self.checked("a request", slot, job.length - 4)
         else:                             # answered at once: the response tells the ground
-            status, place = self.endpoint.stores[slot][4], self.endpoint.stores[slot][6]
-            ground = "size" if status == 5 else "NMIMT" if place == 1 else "MEB"
+            ground = entry_ground(self.endpoint.stores[slot])
             self.note(f"slot {slot}: answered at once for {ground}, CIAP {header.ciap}")
         self.note(f"slot {other}: CIAP of the other slot's command in {before.state(other)}", header.ciap)
 

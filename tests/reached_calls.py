@@ -1,25 +1,24 @@
 """What scripts for the calls program reach.
 
-GOALS is every line that a right set of scripts has to reach. The most of it are pairs: each two grounds
-on which a call can refuse at the same time, of which the earlier one has to be answered.
+GOALS is every line that a right set of scripts has to reach, those of `reached_requester` too. The most of it
+are pairs: each two grounds on which a call can refuse at the same time, of which the earlier one has to be
+answered.
 """
+import reached_requester
 import runs
 from grounds import (BEHIND, complete_grounds, poll_grounds, read_grounds, receive_grounds, take_grounds,
                      timeout_grounds)
-from runs import STATES, Run, is_paused
+from reached_requester import RequesterRun
+from runs import EIDS, FAR_SLOTS, HIGH_PARTS, STATES, answer_of, is_paused, packet_kind
 from second.calls import (COMPLETE, LENGTH, LENGTHS, LONGEST_BODY, LOOK, MEMORY, NUMBER, POLL, READ, RECEIVE,
-                          RESET, SETUP, STORES, TAKE, TIMEOUT, TWO_LENGTHS, TWO_NUMBERS, Calls, records)
+                          RESET, SETUP, STORES, TAKE, TIMEOUT, TWO_LENGTHS, TWO_NUMBERS, records)
 from second.endpoint import STORE
-from second.wire import CONTROL, message_header, packet_fields
 
 ANSWERS = {"receive": (0, 1, 2, *range(10, 24), 40), "take": (0, 30, 31, 33), "poll": (0, 1, 36, 40),
            "complete": (0, 30, 31, 32, 34, 35, 40), "timeout": (0, 30, 37), "setup": (0, 38), "reset": (0,),
            "stores": (0,)}
 SLOT_CALLS = ("take", "read", "complete", "timeout")
-FAR_SLOTS = (2, (1 << 32) - 1)
-HIGH_PARTS = (1 << 8, 1 << 16, 1 << 31)         # added to a slot or a ticket: the low bits stay equal
 BUFFERS = (0, 67, 68, 69, 65535)
-EIDS = {0: 38, 7: 38, 8: 0, 254: 0, 255: 38}
 LENT = ((STORE - 1, STORE), (STORE, STORE - 1), (STORE + 1, STORE), (STORE, STORE + 1), (0, 0),
         (MEMORY, MEMORY), (0, STORE))
 WHICH = {(False, True): "store 0", (True, False): "store 1", (False, False): "both stores"}
@@ -88,18 +87,16 @@ def call_goals():
     yield "read gives a part"
     yield from (f"bad for {fault}" for fault in FAULTS)
 
-GOALS = (*call_goals(), *ground_goals(), *argument_goals(), *slot_goals(0), *slot_goals(1), *look_goals())
+GOALS = (*call_goals(), *ground_goals(), *argument_goals(), *slot_goals(0), *slot_goals(1), *look_goals(),
+         *reached_requester.GOALS)
 
 # What a script reaches
 
-def answer_of(line):
-    return line.split()[0]
-
-class CallsRun(Run):
+class CallsRun(RequesterRun):
     """One script under way."""
 
     def __init__(self):
-        super().__init__(Calls(), {
+        super().__init__({
             SETUP: self.was_set_up, STORES: self.were_lent, RECEIVE: self.received, TAKE: self.taken,
             READ: self.was_read, COMPLETE: self.completed, POLL: self.polled, TIMEOUT: self.timed_out,
             RESET: self.was_reset, LOOK: self.looked})
@@ -134,16 +131,6 @@ class CallsRun(Run):
         return "a cut body" if len(rest) < 3 + length else "a store above 4,300"
 
     # Notes that several calls share
-
-    def answered(self, call, grounds, answer):
-        """The call's grounds, of which the first has to be what was answered."""
-        if grounds:
-            first, *others = grounds
-            if answer is not None and first.split()[0] != answer:
-                raise ValueError(f"{call} answers {answer}, but the first ground is {first}")
-            self.note(f"{call}: {first} alone", not others)
-            for other in others:
-                self.note(f"{call}: {first} before {other}")
 
     def named(self, call, slot, would_do):
         """The slot that was named; would_do says whether a slot would not have been refused."""
@@ -190,12 +177,7 @@ class CallsRun(Run):
         self.answered("receive", grounds, line)
         self.note("a packet for EID 8 while ours is another", line == "13" and packet[1] == 8)
         if grounds == ["40"]:
-            self.note(f"receive: 40 alone, for {self.kind_of(packet)}")
-
-    def kind_of(self, packet):
-        if not packet_fields(packet).som:
-            return "a later packet"
-        return "a primitive" if message_header(packet[4:]).nmimt == CONTROL else "a first packet"
+            self.note(f"receive: 40 alone, for {packet_kind(packet, 'a primitive')}")
 
     def taken(self, before, body, line):
         slot, answer = *NUMBER.unpack(body), answer_of(line)

@@ -15,11 +15,11 @@ def packet(payload, som=1, eom=1, sequence=0, source=9, tag=1, version=1, destin
     marks = som << 7 | eom << 6 | (sequence & 3) << 4 | to << 3 | tag
     return record(log.PACKET, bytes((version, destination, source, marks)) + payload)
 
-def packets(message, first=0, source=9, tag=1):
+def packets(message, first=0, source=9, tag=1, destination=8, to=1):
     """The message cut into packets; the first carries the sequence number `first`."""
     parts = [message[at:at + FULL] for at in range(0, len(message), FULL)]
     return [packet(part, som=i == 0, eom=i == len(parts) - 1, sequence=first + i,
-                   source=source, tag=tag)
+                   source=source, tag=tag, destination=destination, to=to)
             for i, part in enumerate(parts)]
 
 def command(length=20, slot=0, kind=MI, ciap=0, meb=0, ror=0, fill=b"\0"):
@@ -27,8 +27,8 @@ def command(length=20, slot=0, kind=MI, ciap=0, meb=0, ror=0, fill=b"\0"):
     head = bytes((0x84, ror << 7 | kind << 3 | slot, ciap << 1 | meb, 0))
     return sealed(head + (fill * length)[:length - 8])
 
-def control(opcode, slot=0, tag=0x5A, cpsp=0, ciap=0, meb=0):
-    return sealed(bytes((0x84, slot, ciap << 1 | meb, 0, opcode, tag)) + cpsp.to_bytes(2, "little"))
+def control(opcode, slot=0, tag=0x5A, cpsp=0, ciap=0, meb=0, ror=0):
+    return sealed(bytes((0x84, ror << 7 | slot, ciap << 1 | meb, 0, opcode, tag)) + cpsp.to_bytes(2, "little"))
 
 def ask(opcode, slot=0, source=9, tag=2, **fields):
     """A control primitive in its packet, under a tag that the commands of a log do not use."""

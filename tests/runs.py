@@ -1,9 +1,17 @@
 """Runs records on the second program and notes what they reach.
 
-A goal is a short line of text. `reached` has those of the logs, and `reached_calls` those of the scripts.
+A goal is a short line of text. `reached` has those of the logs, `reached_calls` and `reached_requester` those
+of the scripts.
 """
 import copy
 import io
+
+from second.wire import CONTROL, message_header, packet_fields
+
+# Arguments at a bound, for calls of both ends; what setup answers to an EID
+FAR_SLOTS = (2, (1 << 32) - 1)
+HIGH_PARTS = (1 << 8, 1 << 16, 1 << 31)         # added to a slot or a ticket: the low bits stay equal
+EIDS = {0: 38, 7: 38, 8: 0, 254: 0, 255: 38}
 
 STATES = ("Idle", "Receive", "Process untaken", "Process taken", "Process answered", "Transmit")
 
@@ -13,6 +21,15 @@ def picture(endpoint):
     kept.jobs, kept.counts = list(endpoint.jobs), list(endpoint.counts)
     return kept
 
+def answer_of(line):
+    return line.split()[0]
+
+def packet_kind(packet, control):
+    """What a packet is; `control` is the name for a control message."""
+    if not packet_fields(packet).som:
+        return "a later packet"
+    return control if message_header(packet[4:]).nmimt == CONTROL else "a first packet"
+
 def is_paused(endpoint, slot):
     return slot < 2 and endpoint.paused >> slot & 1
 
@@ -20,14 +37,19 @@ def has_begun(endpoint, slot):
     """Whether the slot has sent a packet of its response and has more to send."""
     return getattr(endpoint.jobs[slot], "sent", 0) > 0
 
+def entry_ground(response):
+    """Why a command was answered at once with this response."""
+    status, place = response[4], response[6]
+    return "size" if status == 5 else "NMIMT" if place == 1 else "MEB"
+
 def in_transmit(endpoint):
     return [slot for slot in (0, 1) if endpoint.state(slot) == "Transmit"]
 
 class Run:
     """Records under way on a program of the second one: the lines that it printed, and what it reached.
 
-    `notes` has for each tag what is noted of such a record, from the endpoint before, the record's bytes
-    and the printed line."""
+    `notes` has for each tag what is noted of such a record, from the end that it is for as it was before, the
+    record's bytes and the printed line."""
 
     def __init__(self, program, notes):
         self.program, self.notes = program, notes
@@ -41,8 +63,24 @@ class Run:
         if when:
             self.reached.add(text)
 
+    def answered(self, call, grounds, answer):
+        """The call's grounds, of which the first has to be what was answered."""
+        if grounds:
+            first, *others = grounds
+            if answer is not None and first.split()[0] != answer:
+                raise ValueError(f"{call} answers {answer}, but the first ground is {first}")
+            self.note(f"{call}: {first} alone", not others)
+            for other in others:
+                self.note(f"{call}: {first} before {other}")
+        elif answer not in (None, "0", "1", "2"):
+            raise ValueError(f"{call} answers {answer} without a ground")
+
+    def pictured(self, _tag):
+        """The end that a record of this tag is for, as it is now."""
+        return picture(self.endpoint)
+
     def record(self, tag, body):
-        before = picture(self.endpoint)
+        before = self.pictured(tag)
         line = self.program.line(tag, body)
         self.lines.append(line)
         self.notes[tag](before, body, line)

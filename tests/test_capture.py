@@ -786,6 +786,7 @@ class Writing(Case):
     def test_words_for_every_answer(self):
         """Every number of docs/ANSWERS.md that a log can show has words."""
         text = (HERE.parent / "docs" / "ANSWERS.md").read_text()
+        text = text[:text.index("\n## The requester")]  # no record of a log is the requester's
         numbers = {int(number) for number in re.findall(r"^\| (\d+) \|", text, re.MULTILINE)} - {0, 1, 2, 36, 38, 40}
         self.assertLessEqual(numbers, set(told.REFUSALS))
 

@@ -24,7 +24,8 @@ sys.path[:0] = [str(ROOT / "tools"), str(TESTS)]
 
 from explain.names import DONE, REFUSALS  # noqa: E402
 from second.calls import Calls, call_lines, records  # noqa: E402
-from trying import cli  # noqa: E402
+from second.wire import sealed  # noqa: E402
+from trying import cli, requester_telling  # noqa: E402
 from trying.program import Trouble  # noqa: E402
 from trying.session import Quit, Session, Unexpected  # noqa: E402
 from trying.values import LineError  # noqa: E402
@@ -45,15 +46,22 @@ class Second:
 
 
 class Printing:
-    """A program that prints these lines, and a look of an endpoint that stays as it is between them."""
+    """A program that prints these lines, and looks at two ends that stay as they are between them."""
 
-    LOOK = Calls().line(25, b"")
+    looks = {tag: Calls().line(tag, b"") for tag in (25, 38)}
 
     def __init__(self, *lines):
         self.lines = list(lines)
 
     def line(self, record):
-        return self.LOOK if record[0] == 25 else self.lines.pop(0)
+        return self.looks[record[0]] if record[0] in self.looks else self.lines.pop(0)
+
+
+class WithoutRequester(Second):
+    """A program that does not know the requester's records."""
+
+    def line(self, record):
+        return "bad" if record[0] in range(32, 39) else super().line(record)
 
 
 class Case(unittest.TestCase):
@@ -80,6 +88,13 @@ class Case(unittest.TestCase):
         self.does(line)
         self.assertEqual(self.session.answers, list(numbers), line)
 
+    def refuses(self, line, words, error=LineError):
+        """A line that ends with this error."""
+        with self.subTest(line=line):
+            with self.assertRaises(error) as caught:
+                self.does(line)
+            self.assertIn(words, str(caught.exception))
+
 
 class Scripts(Case):
     def test_each(self):
@@ -89,8 +104,12 @@ class Scripts(Case):
                 self.does(*script.read_text().splitlines())
 
     def test_every_number_is_there(self):
-        expected = re.findall(r"^expect (\d+)$", (TESTS / "try/every-number.try").read_text(), re.MULTILINE)
-        self.assertEqual(set(map(int, expected)), set(REFUSALS) | set(DONE[1]))
+        """Each end has its own; 41 is the requester's alone."""
+        for script, numbers in (("every-number.try", {*REFUSALS, *DONE[1]}),
+                                ("requester-numbers.try", {*requester_telling.REFUSALS, 0, 1, 2})):
+            expected = re.findall(r"^expect (.*)$", (TESTS / "try" / script).read_text(), re.MULTILINE)
+            found = {int(word) for line in expected if line[0].isdigit() for word in line.split()}
+            self.assertEqual(found, numbers, script)
 
     def test_the_page(self):
         """docs/TRY.md is one session, and has what the tool prints."""
@@ -244,6 +263,253 @@ class Telling(Case):
         self.says("record 99 0102", "record with tag 99", "-> 17")
 
 
+class Requesting(Case):
+    """The requester's words, and packets from one end to the other."""
+
+    FIRST = "requester packet 01 09 08 81 84 88 zeros 62"       # of a response from EID 8 under tag 1
+    ODD = "!! the answer does not go with what a look shows"
+
+    def setUp(self):
+        super().setUp()
+        self.does("requester setup 9")
+
+    def polled(self, body):
+        """Packets that polls hand out: those of a response to EID 9 under tag 1."""
+        self.does("reset", "command mi 20", "take 0", f"complete 0 taken {body}", "polls")
+
+    def test_records(self):
+        for line, *bytes_ in (
+                ("requester setup 255", "20 0100", "ff"), ("requester store 4300", "21 0200", "cc10"),
+                ("requester await 200 255", "22 0200", "c8ff"),
+                ("requester cut bytes 84 08 zeros 6", "23 0c00", "0801 8811", "8408 0000"),
+                ("requester cut mi 20 slot 1 opcode 9 fill ff tag 5 dest 7 buffer 16",
+                 "23 1800", "0705 1000", "84090000 09ffffff"),
+                ("requester cut nmimt 15 20 ror meb ciap", "23 1800", "0801 8811", "84f80300"),
+                ("requester primitive abort slot 1 tag 5Ah cpsp 0x102",
+                 "24 0c00", "0802 01000000 02 5a 0201 8811"),
+                ("requester primitive 200 slot 4294967295 mtag 255 dest 7 buffer 0 clear",
+                 "24 0c00", "07ff ffffffff c8 00 0100 0000"),
+                ("requester packet 01:09 0x08 c1 ones 2", "25 0600", "010908c1 ffff"),
+                ("requester look", "26 0000")):
+            with self.subTest(line=line):
+                self.begin(save=io.BytesIO())
+                self.does("requester await 0 0")
+                start, expected = self.session.save.tell(), bytes.fromhex("".join(bytes_))
+                self.does(line)
+                self.assertEqual(self.session.save.getvalue()[start:][:len(expected)], expected)
+
+    def test_setup_and_store(self):
+        self.says("requester setup 200", "requester: setup with EID 200",
+                  "-> 0, set up: the requester's EID is 200", "= requester EID 200, awaits nothing")
+        self.says("requester setup 255", "38, the EID is not 8 to 254; the state is the one for EID 8",
+                  "= requester EID 8, awaits nothing")
+        self.says("requester store 0", "a store of 0 bytes", "it is lent from here on: receive answers 40")
+        self.says("requester packet 01", "40, the store has 0 bytes and not 4,224", "nothing changed")
+        self.assertTrue(self.does("requester store 4224").endswith("it is lent from here on\n"))
+
+    def test_awaiting(self):
+        self.says("requester await 8 1", "await EID 8 under tag 1", "-> 0, awaited from here on",
+                  "= requester EID 9, awaits EID 8 under tag 1")
+        self.does(self.FIRST, "expect gathered 64")
+        self.says("requester await 8 8", "41, the message tag is 8, above 7", "nothing changed")
+        self.says("requester await 8 1", "ends the assembly from EID 8 under tag 1, 64 bytes gathered",
+                  "= requester EID 9, awaits EID 8 under tag 1\n")
+
+    def test_cutting(self):
+        self.says("requester cut slot 1 admin 100 opcode 2",
+                  "cut for EID 8 under tag 1; Admin command, opcode 02h (Get Log Page), for slot 1,",
+                  "-> 0, cut into 2 packets, 108 bytes",
+                  "packet of 40 bytes, EID 9 to 8, EOM TO, sequence 1, tag 1")
+        self.says("requester cut mi 4224 tag 7", "-> 0, cut into 66 packets, 4,488 bytes",
+                  "sequence 1, tag 7\n           62 more packets\n           packet of 68 bytes")
+        self.answers("requester cut bytes ff zeros 7", 0)
+
+    def test_cutting_is_refused(self):
+        for options, *words in (
+                ("mi 100 buffer 107", "cut for EID 8 under tag 1 with a buffer of 107 bytes",
+                 "36, the buffer has 107 bytes, fewer than the 108 that are to be written"),
+                ("mi 4225 tag 8 buffer 0",
+                 "41, the message has 4,225 bytes, not 8 to 4,224; the message tag is 8, above 7"),
+                ("tag 8 mi 4224", "41, the message tag is 8, above 7"),
+                ("bytes zeros 7", "41, the message has 7 bytes, not 8 to 4,224"),
+                ("bytes", "a message without a byte", "41, the message has 0 bytes, not 8 to 4,224")):
+            self.says(f"requester cut {options}", *words, "nothing changed")
+
+    def test_primitives(self):
+        self.says("requester primitive pause tag 90",
+                  "primitive for EID 8 under tag 2; Pause for both slots, TAG 5ah, CPSP 0000h",
+                  "-> 0, built, 16 bytes", "packet of 16 bytes, EID 9 to 8, SOM EOM TO, sequence 0, tag 2")
+        self.says("requester primitive 200 slot 1", "control primitive c8h for slot 1", "-> 0, built")
+        for options, words in (
+                ("slot 2 mtag 8 buffer 0", "41, the message tag is 8, above 7"),
+                ("slot 4294967295 buffer 0", "30, there is no slot 4294967295, only 0 and 1"),
+                ("buffer 15", "36, the buffer has 15 bytes, fewer than the 16 that are to be written")):
+            self.says(f"requester primitive abort {options}", words, "nothing changed")
+
+    def test_grounds(self):
+        self.does("requester await 8 1")
+        for packet, words in (
+                ("", "10, the packet has 0 bytes, fewer than 5"),
+                ("01 09 08 c1", "10, the packet has 4 bytes, fewer than 5"),
+                ("01 09 08 c1 zeros 65", "11, the packet has 69 bytes, more than 68"),
+                ("02 09 08 c1 84", "12, the version is 2 and not 1"),
+                ("01 0a 08 c1 84", "13, the destination is EID 10 and not the requester's, 9"),
+                ("01 09 08 c9 84", "14, TO is 1: it is no response"),
+                ("01 09 08 c1 04", "15, the first byte is 04h and not 84h"),
+                ("01 09 08 c1 84 08 zeros 6", "15, ROR is 0: it is no response"),
+                ("01 09 08 81 84 88 zeros 6", "16, EOM 0, and the payload is 8 bytes and not 64"),
+                ("01 09 08 c1 84 88 zeros 5", "17, EOM 1, and the payload is 7 bytes, below 8"),
+                ("01 09 08 81 84 80 zeros 62", "18, a control reply has to be one packet of 12 payload "
+                                               "bytes: EOM is 0 and it has 64 payload bytes and not 12"),
+                ("01 09 08 c1 84 80 zeros 10", "19, the integrity check is wrong: the message of 12 bytes"),
+                ("01 09 07 c1 84 88 zeros 6", "20, source and tag are not awaited: EID 7 under tag 1 came, "
+                                              "and EID 8 under tag 1 is awaited"),
+                ("01 09 08 51 84", "21, no message from EID 8 under tag 1 is being gathered (none is)")):
+            self.says(f"requester packet {packet}", f"-> {words}", "nothing changed")
+        self.says("requester packet 01 09 08 c1 84 88 zeros 10", "19, ", "its payload stays in the store")
+
+    def test_an_assembly_ends(self):
+        self.does("requester await 8 1")
+        for packet, *words in (
+                ("01 09 08 61 84", "22, out of sequence: 2 came, and after 0 comes 1"),
+                ("01 09 08 11 zeros 63", "16, EOM 0, and the payload is 63 bytes and not 64"),
+                ("01 09 08 51 84 88", "19, the integrity check is wrong: the message of 66 bytes",
+                 "its payload stays in the store"),
+                ("01 09 08 c1 00", "15, ")):
+            self.does(self.FIRST)
+            self.says(f"requester packet {packet}", *words,
+                      "ends the assembly from EID 8 under tag 1, 64 bytes gathered; it is still awaited",
+                      "= requester EID 9, awaits EID 8 under tag 1\n")
+
+    def test_an_assembly_stays(self):
+        self.does("requester await 8 1", self.FIRST)
+        self.says("requester packet 01 09 08 52 84", "21, no message from EID 8 under tag 2",
+                  "(one from EID 8 under tag 1 is)", "nothing changed")
+        self.says("requester look", "requester EID 9, awaits EID 8 under tag 1, 64 bytes gathered; "
+                  "the last packet's sequence was 0", "its store: 4,224 bytes, CRC-32C ")
+
+    def test_responses(self):
+        self.polled("00 01 02 03")
+        self.does("requester await 8 1")
+        self.says("deliver requester", "response to the MI command of slot 0, status 00h (success), 12 bytes",
+                  "1, a response is complete: 12 bytes from EID 8 under tag 1",
+                  "its body of 4 bytes: 00 01 02 03; integrity check right",
+                  "= requester EID 9, awaits nothing")
+        self.does("requester await 8 1")
+        shortest = sealed(bytes.fromhex("84880000")).hex()
+        self.says(f"requester packet 010908c1{shortest}", "response to the MI command of slot 0, 8 bytes",
+                  "1, a response is complete: 8 bytes", "its body of 0 bytes: none")
+
+    def test_control_replies(self):
+        for built, tag, *words in (
+                ("requester primitive pause tag 90", 2, "control reply of slot 0, status 00h (success)",
+                 "2, a control reply is there: 12 bytes from EID 8 under tag 2",
+                 "the reply to Pause for both slots of record 2: TAG 5ah, CPSR 0: no pause flag is set"),
+                ("requester primitive 9", 2, "the reply to control primitive 09h for slot 0 of record",
+                 "error 03h (invalid opcode); it did not act"),
+                ("control get-state tag 7", 2, "it says TAG 07h, CPSR 0000h"),
+                ("control 9 mtag 3", 3, "it says error 03h (invalid opcode)")):
+            self.does(built, *(["deliver endpoint"] if built.startswith("requester") else []),
+                      "polls", f"requester await 8 {tag}")
+            self.says("deliver requester", *words, "= requester EID 9, awaits nothing")
+
+    def test_delivered_to_the_endpoint(self):
+        self.does("requester cut mi 200")
+        self.answers("deliver endpoint skip 1 only 3", 21, 21)
+        self.answers("deliver endpoint", 0, 0, 0, 1)
+        self.answers("deliver endpoint", 20, 21, 21, 21)
+        self.does("requester cut mi 20 dest 9")
+        self.answers("deliver endpoint", 13)
+        self.does("requester cut mi 7000")
+        self.refuses("deliver endpoint", "to deliver: the last cut or primitive wrote none")
+
+    def test_delivered_to_the_requester(self):
+        self.polled("zeros 200")
+        self.does("requester await 8 1")
+        self.answers("deliver requester only 1", 0)
+        self.answers("deliver requester skip 1", 0, 0, 1)
+        self.does("poll")
+        self.refuses("deliver requester", "to deliver: the last line with polls handed out none")
+        self.does("command mi 20", "take 0", "complete 0 taken zeros 61", "requester await 8 1", "poll")
+        self.answers("deliver requester", 0)
+        self.does("poll")
+        self.answers("deliver requester", 1)
+
+    def test_delivered_by_tag(self):
+        self.does("command mi 20", "take 0", "complete 0 taken zeros 61", "control get-state", "polls",
+                  "requester await 8 1")
+        self.answers("deliver requester tag 1", 0, 1)
+        self.does("requester await 8 2")
+        self.answers("deliver requester", 2, 20, 21)
+        self.answers("deliver requester tag 1 skip 1", 21)
+        self.refuses("deliver requester tag 5", "there are 3, and the options leave none")
+        self.refuses("deliver requester tag 1 skip 2", "there are 3, and the options leave none")
+
+    def test_every_number_of_packets(self):
+        """What one end cuts is gathered by the other, also where its last packet is full or has one byte."""
+        for length in (20, 63, 64, 65, 127, 128, 129, 192, 193, 256, 257, 4160, 4161, 4223, 4224):
+            self.does("reset", f"requester cut mi {length} fill rising", "deliver endpoint",
+                      "expect slot 0 untaken", "take 0", f"complete 0 taken rising {length - 8}", "polls",
+                      "requester await 8 1", "deliver requester", f"expect line 1 {length}",
+                      f"expect body rising {length - 8}", "expect awaits nothing")
+
+    def test_records_as_they_are(self):
+        self.says("record 34 0801", "await EID 8 under tag 1", "= requester EID 9, awaits EID 8 under tag 1")
+        self.says("record 38", "record with tag 38", "-> eid=9 unit=64 awaits=8:1 assembly=- check=5714439c")
+        self.begin(Printing("17"))
+        self.says("record 35 01", "record with tag 35", "-> 17")
+        self.begin(raw=True)
+        self.says("requester look", "record 26 00 00\n", "line   eid=8 unit=64 awaits=- assembly=- check=")
+
+    def test_a_program_that_is_wrong(self):
+        for call, line, words in (
+                ("setup 9", "0", "0, set up"), ("await 8 1", "0", "0, awaited"),
+                ("packet 01 08 08 81 84 88 zeros 62", "0", "0, taken in"),
+                ("packet 01 08 08 c1 84 88 zeros 6", "1 9", "1, a response is complete"),
+                ("packet 01 08 08 c1 84 88 zeros 6", "2 8", "2, a control reply is there"),
+                ("packet", "0", "0, taken in"), ("packet", "2 0", "2, a control reply is there"),
+                ("packet 01", "22", "22, out of sequence"),
+                ("packet 01 08 08 81 84 88 zeros 62", "23", "23, the total is above 4,224 bytes")):
+            with self.subTest(call=call, line=line):
+                self.begin(Printing(line))
+                self.says(f"requester {call}", words, self.ODD)
+        self.begin(Printing("38", "0 16 " + "01080889" * 4 + " touched"))
+        self.assertNotIn(self.ODD, self.does("requester setup 7"))
+        self.says("requester primitive pause", "!! bytes of the buffer behind the packets were touched")
+
+    def test_lines_that_are_none(self):
+        for call, line in (
+                ("setup 9", "1"), ("setup 9", "x"), ("store 5", "38"), ("await 8 1", "0 1"),
+                ("await 8 1", ""), ("cut mi 20", "0 stays"), ("cut mi 20", "0 3 0102 stays"),
+                ("cut mi 20", "0 2 0102"), ("cut mi 20", "0 2 0102 00 stays"), ("cut mi 20", "30 stays"),
+                ("cut mi 20", "36"),
+                ("cut mi 20", "36 2 0102 stays"), ("primitive pause", "20 stays"), ("primitive pause", ""),
+                ("packet 01", "1"), ("packet 01", "10 5"), ("packet 01", "24")):
+            with self.subTest(call=call, line=line):
+                self.begin(Printing(line))
+                self.refuses(f"requester {call}", f"record 1: {line!r} is no line for this call", Trouble)
+
+    def test_a_store_that_is_wrong(self):
+        """A look's check has to be that of a store with the gathered bytes."""
+        class Forgetting(Second):
+            def line(self, record):
+                line = super().line(record)
+                return line[:-8] + "5714439c" if record[0] == 38 else line
+        self.begin(Forgetting())
+        self.assertNotIn(self.ODD, self.does("requester setup 9", "requester await 8 1"))
+        self.says(self.FIRST, self.ODD)
+
+    def test_a_program_without_it(self):
+        self.begin(WithoutRequester())
+        self.answers("command mi 20", 1)
+        for line in ("requester look", "requester setup 9", "record 34 0801", "expect awaits nothing"):
+            self.refuses(line, "the program has no requester: it printed bad for a look at it", Trouble)
+        program = Printing()
+        program.looks = {**program.looks, 38: "eid=8"}
+        self.begin(program)
+        self.refuses("requester look", "a look at the requester printed 'eid=8', which is no state", Trouble)
+
+
 class Lines(Case):
     def test_what_was_expected(self):
         for line, words in (
@@ -263,12 +529,44 @@ class Lines(Case):
                 ("complete 0", "expected a ticket, 0 to 4,294,967,295, or taken, and the line ends"),
                 ("complete 0 x", "and there is 'x'"), ("poll 65536", "expected a buffer's length, 0 to 65,535"),
                 ("stores 4301 0", "expected the length of store 0, 0 to 4,300"), ("stores 1", "expected the length of store 1"),
-                ("reset 1", "expected the end"), ("expect", "expected an answer's number, slot, body or line"),
+                ("reset 1", "expected the end"),
+                ("expect", "expected an answer's number, slot, body, line, awaits or gathered"),
                 ("expect x", "expected an answer's number"), ("expect slot 0 busy", "expected one of idle, receive"),
-                ("expect 0", "expected a call above"), ("help x", "expected one of setup")):
-            with self.subTest(line=line), self.assertRaises(LineError) as caught:
-                self.does(line)
-            self.assertIn(words, str(caught.exception))
+                ("expect 0", "expected a call above"), ("help x", "expected one of setup"),
+                ("help requester x", "and there is 'requester x'")):
+            self.refuses(line, words)
+        self.assertEqual(self.session.number, 0)
+
+    def test_what_was_expected_of_the_requester(self):
+        for line, words in (
+                ("requester", "expected one of requester setup, requester store, "),
+                ("requester x", "requester look, and there is 'requester x'"),
+                ("requester setup", "expected an EID, 0 to 255, and the line ends"),
+                ("requester setup 9 64", "expected the end of the line, and there is '64'"),
+                ("requester store 4301", "expected the store's length, 0 to 4,300"),
+                ("requester await 8", "expected a message tag, 0 to 255, and the line ends"),
+                ("requester await 256 1", "expected a source EID, 0 to 255"),
+                ("requester await 8 1 1", "expected the end"),
+                ("requester cut", "as in: requester cut slot 0 mi 20"),
+                ("requester cut mi 20 seq 1", "expected one of slot, ciap,"),
+                ("requester cut mi 20 buffer 65536", "expected a buffer's length, 0 to 65,535"),
+                ("requester cut slot 0 bytes 84", "expected bytes without slot: they are the whole message"),
+                ("requester cut bytes 84 x", "expected bytes: hex"),
+                ("requester cut mi 8189", "expected a message of at most 8,188 bytes, and it has 8,189"),
+                ("requester primitive", "expected pause, resume, abort, get-state or an opcode"),
+                ("requester primitive stop", "and there is 'stop'"),
+                ("requester primitive pause ciap", "expected one of slot, tag, cpsp"),
+                ("requester packet 1", "expected bytes: hex"), ("requester look 1", "expected the end"),
+                ("deliver", "expected endpoint or requester, and the line ends"),
+                ("deliver host", "expected endpoint or requester, and there is 'host'"),
+                ("deliver endpoint tag 8", "expected a message tag, 0 to 7"),
+                ("deliver endpoint", "to deliver: the last cut or primitive wrote none"),
+                ("deliver requester", "to deliver: the last line with polls handed out none"),
+                ("expect awaits", "expected nothing, or a source EID, 0 to 255, and the line ends"),
+                ("expect awaits nothing 1", "and there is 'nothing'"),
+                ("expect awaits 8", "expected a message tag, 0 to 7"),
+                ("expect gathered x", "expected a number of gathered bytes")):
+            self.refuses(line, words)
         self.assertEqual(self.session.number, 0)
 
     def test_empty_lines(self):
@@ -282,7 +580,9 @@ class Lines(Case):
                             ("expect 0 1", "expected 0 1, and the answers were 0"),
                             ("expect slot 0 idle", "expected idle, and slot 0 was taken"),
                             ("expect body 00", "expected 00, and the body was none"),
-                            ("expect line 0 2", "expected 0 2, and the line was 0 1")):
+                            ("expect line 0 2", "expected 0 2, and the line was 0 1"),
+                            ("expect awaits 8 1", "expected EID 8 under tag 1, and the awaiting was nothing"),
+                            ("expect gathered 64", "expected 64, and the gathered length was 0")):
             with self.assertRaises(Unexpected) as caught:
                 self.does(line)
             self.assertEqual(str(caught.exception), words)
@@ -292,6 +592,9 @@ class Lines(Case):
         for word in WORDS.values():
             self.assertIn(word.usage, found)
         self.says("help command", "bad-check", "a wrong integrity check")
+        self.says("help requester", "requester setup EID", "requester look")
+        self.says("help requester cut", "bytes BYTES", "the rest of the line")
+        self.assertNotIn("requester setup", self.does("help requester cut"))
 
     def test_quit(self):
         with self.assertRaises(Quit):
@@ -302,6 +605,14 @@ class Lines(Case):
         self.assertEqual(cli.completion("", "com", 1), "complete ")
         self.assertEqual(cli.completion("control ", "get", 0), "get-state ")
         self.assertEqual(cli.completion("command slot 0 ", "bad", 0), "bad-check ")
+        self.assertEqual(cli.completion("", "req", 0), "requester ")
+        self.assertIsNone(cli.completion("", "req", 1))
+        self.assertEqual(cli.completion("requester ", "p", 0), "primitive ")
+        self.assertEqual(cli.completion("help requester ", "c", 0), "cut ")
+        self.assertEqual(cli.completion("requester primitive ", "get", 0), "get-state ")
+        self.assertEqual(cli.completion("requester cut mi 20 ", "buf", 0), "buffer ")
+        self.assertEqual(cli.completion("deliver ", "end", 0), "endpoint ")
+        self.assertIsNone(cli.completion("help command ", "", 0))
         self.assertIsNone(cli.completion("x ", "", 0))
 
 
@@ -321,10 +632,11 @@ class Tool(unittest.TestCase):
     def test_a_script(self):
         with tempfile.TemporaryDirectory() as folder:
             saved = pathlib.Path(folder) / "saved"
-            ran = self.run_it(TESTS / "try/stale-ticket.try", "--save", saved)
-            self.ended(ran, 0)
-            self.assertIn("> expect 32\n", ran.stdout)
-            self.assertNotIn("bad", list(call_lines(io.BytesIO(saved.read_bytes()))))
+            for script, line in (("stale-ticket.try", "expect 32"), ("both-ends.try", "expect line 1 4224")):
+                ran = self.run_it(TESTS / "try" / script, "--save", saved)
+                self.ended(ran, 0)
+                self.assertIn(f"> {line}\n", ran.stdout)
+                self.assertNotIn("bad", list(call_lines(io.BytesIO(saved.read_bytes()))))
 
     def test_status(self):
         self.ended(self.run_it(given="take 0\nexpect 0\ntake 0\n"), 1,

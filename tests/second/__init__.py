@@ -1,6 +1,6 @@
-"""A second program for the two-slot endpoint, its log program and its calls program.
+"""A second program for the two-slot endpoint, the requester, the log program and the calls program.
 
-It is written from document 01 and the page of the calls program alone.
+It is written from documents 01 and 02 and the page of the calls program alone.
 
     python3 tests/second < LOG              the log program
     python3 tests/second calls < SCRIPT     the calls program
@@ -8,11 +8,12 @@ It is written from document 01 and the page of the calls program alone.
 
     wire       packets, messages and the integrity check, as bytes
     endpoint   what a slot holds, and the calls
+    requester  the controller's end: what it awaits, and the calls
     framing    how records are read
     log        the records of a log, and the line that each prints
     calls      the records of a script, and the line that each prints
     bench      the lines of the bench
 
 Each part uses only those above it. Sentences in double quotes in the comments are sentences of document 01
-or, in `calls`, of the page that fixes its records and lines.
+or, in `requester`, of document 02 too and, in `calls`, of the page that fixes its records and lines.
 """

@@ -14,7 +14,7 @@ PROGRAMS = {"log": log_lines, "calls": call_lines, "bench": lambda stream: bench
 
 def main():
     parser = argparse.ArgumentParser(
-        prog="second", description="Prints what the endpoint answers to the records on standard input.")
+        prog="second", description="Prints what the records on standard input are answered with.")
     parser.add_argument("program", nargs="?", default="log", choices=PROGRAMS,
                         help="whose records they are; the bench prints its lines without any")
     for line in PROGRAMS[parser.parse_args().program](sys.stdin.buffer):

@@ -5,9 +5,14 @@ import struct
 from second.endpoint import (ENDPOINT_BITS, SLOT_BIT, STORE, Answered, Endpoint, Idle, Process, Receive,
                              Ticket, Transmit)
 from second.framing import framed
-from second.wire import PAYLOAD, crc32c
+from second.requester import Requester
+from second.wire import PAYLOAD, ControlRequest, crc32c
 
 SETUP, STORES, RECEIVE, TAKE, READ, COMPLETE, POLL, TIMEOUT, RESET, LOOK = range(16, 26)
+
+# "2026-01, the requester."
+(REQUESTER_SETUP, REQUESTER_STORE, REQUESTER_AWAIT, REQUESTER_CUT, REQUESTER_PRIMITIVE, REQUESTER_RECEIVE,
+ REQUESTER_LOOK) = range(32, 39)
 
 MEMORY = 4300               # "A store is 4,300 bytes of memory, zeros, whose front is lent"
 LONGEST_BODY = 8192         # "a body of that many bytes, at most 8,192"
@@ -15,16 +20,29 @@ UNTOUCHED = b"\xa5"         # "lent anew at just that length, every byte A5h"
 
 # The least and the greatest length of each body
 LENGTHS = {SETUP: (1, 1), STORES: (4, 4), RECEIVE: (0, LONGEST_BODY), TAKE: (4, 4), READ: (4, 4),
-           COMPLETE: (8, LONGEST_BODY), POLL: (2, 2), TIMEOUT: (4, 4), RESET: (0, 0), LOOK: (0, 0)}
+           COMPLETE: (8, LONGEST_BODY), POLL: (2, 2), TIMEOUT: (4, 4), RESET: (0, 0), LOOK: (0, 0),
+           REQUESTER_SETUP: (1, 1), REQUESTER_STORE: (2, 2), REQUESTER_AWAIT: (2, 2),
+           REQUESTER_CUT: (4, LONGEST_BODY), REQUESTER_PRIMITIVE: (12, 12),
+           REQUESTER_RECEIVE: (0, LONGEST_BODY), REQUESTER_LOOK: (0, 0)}
 
 # "Numbers in a record are low byte first; slots and tickets are full 32-bit numbers."
 NUMBER, TWO_NUMBERS, LENGTH, TWO_LENGTHS = (struct.Struct(form) for form in ("<I", "<II", "<H", "<HH"))
 
+# "destination (1), tag (1), buffer's length (2), message"
+CUT = struct.Struct("<BBH")
+# "destination (1), message tag (1), slot (4), opcode (1), the primitive's TAG (1), CPSP (2),
+# buffer's length (2)"
+PRIMITIVE = struct.Struct("<BBIBBHH")
+
+# The records that change what is lent
+LENT = {STORES: TWO_LENGTHS, REQUESTER_STORE: LENGTH}
+
 def records(stream):
     """Tag and bytes of each record; both are None for a faulty one, and that is the last."""
     for tag, data in framed(stream, LENGTHS):
-        # "lengths of store 0 and store 1 that are lent from now on (2, 2); above 4,300 is `bad`"
-        if tag == STORES and max(TWO_LENGTHS.unpack(data)) > MEMORY:
+        # "lengths of store 0 and store 1 that are lent from now on (2, 2); above 4,300 is `bad`";
+        # "length lent from now on (2), above 4,300 `bad`"
+        if tag in LENT and max(LENT[tag].unpack(data)) > MEMORY:
             yield None, None
             return
         yield tag, data
@@ -38,6 +56,13 @@ def in_hex(data):
 
 def joined(*words):
     return ":".join(str(word) for word in words)
+
+def joined_or_none(words):
+    return "-" if words is None else joined(*words)
+
+def named(values):
+    """What a look prints of a state."""
+    return " ".join(f"{name}={value}" for name, value in values.items())
 
 # What a look prints of a slot, behind its ticket and its two flags
 PHASES = {
@@ -68,8 +93,81 @@ def check_of(data):
     return f"{crc32c(data):08x}"
 
 
+# "A buffer that a record asks for [..] is lent anew at just that length"
+
+def lent_buffer(length):
+    return memoryview(bytearray(UNTOUCHED * length))
+
+def shown_buffer(answer, wrote, buffer, length):
+    """ "`1 LENGTH PACKET stays`, else `ANSWER stays`"; `wrote` is the answer beside which `length` bytes
+    were written."""
+    # "`stays` if the bytes behind what was written (all, if nothing was) are still A5h, else `touched`"
+    behind = buffer[length:]
+    end = "stays" if behind == UNTOUCHED * len(behind) else "touched"
+    return f"{answer} {length} {in_hex(buffer[:length])} {end}" if answer == wrote else f"{answer} {end}"
+
+
+class RequesterCalls:
+    """The requester's calls under way: the requester, and its store's memory with the length that is lent."""
+
+    def __init__(self):
+        # "At the start: [..] requester as a setup with EID 8 [..] leaves them"; "4,224 bytes at the start"
+        self.memory = bytearray(MEMORY)
+        self.lent = STORE
+        self.setup(bytes((8,)))
+        self.calls = {REQUESTER_SETUP: self.setup, REQUESTER_STORE: self.store,
+                      REQUESTER_AWAIT: self.expect, REQUESTER_CUT: self.cut,
+                      REQUESTER_PRIMITIVE: self.primitive, REQUESTER_RECEIVE: self.receive,
+                      REQUESTER_LOOK: self.look}
+
+    def lend(self):
+        self.requester.store = memoryview(self.memory)[:self.lent]
+
+    def setup(self, data):
+        # "32 setup: as 16."
+        answer, self.requester = Requester.setup(data[0])
+        self.lend()
+        return answer
+
+    def store(self, data):
+        self.lent, = LENGTH.unpack(data)
+        self.lend()
+        return 0
+
+    def expect(self, data):
+        source, tag = data
+        return self.requester.expect(source, tag)
+
+    def cut(self, data):
+        destination, tag, length = CUT.unpack(data[:CUT.size])
+        buffer = lent_buffer(length)
+        answer, written = self.requester.cut(destination, tag, data[CUT.size:], buffer)
+        # "`0 LENGTH BYTES stays` (what was written, packets end to end), else `ANSWER stays`"
+        return shown_buffer(answer, 0, buffer, written)
+
+    def primitive(self, data):
+        destination, message_tag, slot, opcode, tag, cpsp, length = PRIMITIVE.unpack(data)
+        buffer = lent_buffer(length)
+        request = ControlRequest(opcode, tag, cpsp)
+        answer, written = self.requester.primitive(destination, message_tag, slot, request, buffer)
+        return shown_buffer(answer, 0, buffer, written)     # "the same"
+
+    def receive(self, packet):
+        # "`1 LENGTH`, `2 LENGTH`, else ANSWER"
+        answer, length = self.requester.receive(packet)
+        return f"{answer} {length}" if answer in (1, 2) else answer
+
+    def look(self, _):
+        """ "awaits `SOURCE:TAG`, assembly `SEQUENCE:LENGTH`" """
+        requester = self.requester
+        shown = {"eid": requester.eid, "unit": PAYLOAD, "awaits": joined_or_none(requester.awaited),
+                 "assembly": joined_or_none(requester.assembly), "check": check_of(bytes(requester.store))}
+        return named(shown)
+
+
 class Calls:
-    """The calls under way: the endpoint, and two stores' memory with the lengths that are lent."""
+    """The calls under way: the endpoint, two stores' memory with the lengths that are lent, and beside them
+    the requester's calls."""
 
     def __init__(self):
         # "At the start: endpoint [..] as a setup with EID 8 [..] leaves them"; "4,224 bytes at the start"
@@ -78,7 +176,7 @@ class Calls:
         self.setup(bytes((8,)))
         self.calls = {SETUP: self.setup, STORES: self.stores, RECEIVE: self.receive, TAKE: self.take,
                       READ: self.read, COMPLETE: self.complete, POLL: self.poll, TIMEOUT: self.timeout,
-                      RESET: self.reset, LOOK: self.look}
+                      RESET: self.reset, LOOK: self.look, **RequesterCalls().calls}
 
     def line(self, tag, data):
         """Do what the record says; the line that it prints."""
@@ -117,13 +215,10 @@ class Calls:
 
     def poll(self, data):
         length, = LENGTH.unpack(data)
-        buffer = bytearray(UNTOUCHED * length)
+        buffer = lent_buffer(length)
         answer, packet = self.endpoint.poll(len(buffer))
         buffer[:len(packet)] = packet
-        # "`stays` if the bytes behind what was written (all, if nothing was) are still A5h, else `touched`"
-        behind = buffer[len(packet):]
-        end = "stays" if behind == UNTOUCHED * len(behind) else "touched"
-        return f"1 {len(packet)} {in_hex(packet)} {end}" if answer == 1 else f"{answer} {end}"
+        return shown_buffer(answer, 1, buffer, len(packet))
 
     def timeout(self, data):
         return self.endpoint.timeout(*NUMBER.unpack(data))
@@ -139,7 +234,7 @@ class Calls:
                  "reply": shown_reply(endpoint.reply),
                  "slot0": shown_slot(endpoint, 0), "slot1": shown_slot(endpoint, 1),
                  "check0": check_of(bytes(endpoint.stores[0])), "check1": check_of(bytes(endpoint.stores[1]))}
-        return " ".join(f"{name}={value}" for name, value in shown.items())
+        return named(shown)
 
 def call_lines(stream):
     calls = Calls()

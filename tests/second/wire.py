@@ -100,6 +100,12 @@ def control_request(message):
     """ "Control request, 12 bytes: header, opcode, TAG, CPSP (2), check." """
     return ControlRequest(message[4], message[5], message[6] | message[7] << 8)
 
+def control_message(csi, request):
+    """The twelve bytes that `control_request` reads; "All other bits of bytes 1 to 3 are [..] zero on
+    sending." """
+    header = bytes((0x84, CONTROL << 3 | csi, 0, 0))
+    return sealed(header + bytes((request.opcode, request.tag)) + request.cpsp.to_bytes(2, "little"))
+
 def success(tag, cpsr):
     """ "Success reply: header, 00h, TAG, CPSR (2), check." """
     return bytes((0, tag)) + cpsr.to_bytes(2, "little")

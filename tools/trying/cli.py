@@ -8,11 +8,12 @@ import sys
 
 from .messages import PRIMITIVES
 from .program import Program, Trouble, unsignalled
+from .requester_words import RECEIVE
 from .session import WIDTH, Quit, Session, Unexpected
 from .values import PATTERNS, LineError
-from .words import EXPECTATIONS, STATES, WORDS
+from .words import EXPECTATIONS, STATES, WORDS, word_of
 
-DESCRIPTION = "Tries the endpoint by hand: each line is a call, and its answer is told in words."
+DESCRIPTION = "Tries endpoint and requester by hand: each line is a call, and its answer is told in words."
 
 EPILOG = """
 Without SCRIPT the lines come from standard input: at a prompt if that is a terminal. A first try:
@@ -24,9 +25,18 @@ Without SCRIPT the lines come from standard input: at a prompt if that is a term
   look                          the whole state
   help                          all words; help command: all about one
 
-docs/TRY.md walks through one. The answers are those of the proved program mi_calls, which is proved and built first where a source
-has changed. A script is a test by its lines with expect. The status is 0 if all was done, 1 if something was not as expected or
-failed, and 2 for a line or a command line that can't be read; a script ends there.
+Both ends, with packets that go from one to the other:
+
+  requester setup 9             the requester has EID 9, and the endpoint EID 8
+  requester await 8 1           it awaits a message from there under message tag 1
+  requester cut slot 0 mi 20    and cuts a command into packets
+  deliver endpoint              which the endpoint receives; then take, complete and polls as above
+  deliver requester             the packets that polls handed out are gathered
+
+docs/TRY.md walks through all of it. The answers are those of the proved program mi_calls, which is proved and
+built first where a source has changed. A script is a test by its lines with expect. The status is 0 if all
+was done, 1 if something was not as expected or failed, and 2 for a line or a command line that can't be read;
+a script ends there.
 """
 
 ENDED = {signal.SIGTERM: 143, signal.SIGHUP: 129}
@@ -83,14 +93,21 @@ def completion(before, text, place):
 
 
 def known_behind(words):
-    if not words or words == ["help"]:
-        return WORDS
-    return (*WORDS[words[0]].options, *MORE.get(words[0], ())) if words[0] in WORDS else ()
+    """What can stand behind these: a part of a word of the table, or what such a word is given."""
+    asks = words[:1] == ["help"]
+    begun = words[1:] if asks else words
+    names = [name.split() for name in WORDS]
+    parts = [name[len(begun)] for name in names if name[:len(begun)] == begun and name != begun]
+    if parts or asks:
+        return dict.fromkeys(parts)
+    name = word_of(words)
+    return (*WORDS[name].options, *MORE.get(name, ())) if name else ()
 
 
 # Words that can follow beside options
 MORE = {"control": tuple(PRIMITIVES), "complete": ("taken", *PATTERNS), "packet": tuple(PATTERNS),
-        "expect": (*EXPECTATIONS, *STATES)}
+        "expect": (*EXPECTATIONS, *STATES), "requester primitive": tuple(PRIMITIVES),
+        "requester packet": tuple(PATTERNS), "deliver": tuple(RECEIVE)}
 
 
 # Doing them

@@ -1,22 +1,13 @@
 """Commands and control primitives: the options of their lines, and the packets that carry them."""
-from collections import namedtuple
-
 from records import FULL, command, control, damaged, packet
 from second.wire import ABORT, ADMIN, GET_STATE, MI, PAUSE, PCIE, RESUME
 
-from .values import PATTERNS, LineError, hex_of, number_of
+from .forms import option, read_options
+from .values import LineError, number_of
 
 KINDS = {"mi": MI, "admin": ADMIN, "pcie": PCIE}
 PRIMITIVES = {"pause": PAUSE, "resume": RESUME, "abort": ABORT, "get-state": GET_STATE}
 LONGEST_COMMAND = 8192
-
-# An option: what it is given (name, least, greatest), and what it means
-Option = namedtuple("Option", "given meaning")
-
-
-def option(meaning, *given):
-    return Option(given, meaning)
-
 
 # What a packet carries; both kinds of lines have these
 PACKET_OPTIONS = {
@@ -37,7 +28,8 @@ MESSAGE_OPTIONS = {
     "ciap": option("CIAP 1"),
     "meb": option("MEB 1"),
 }
-COMMAND_OPTIONS = {
+# What describes a command's message
+COMMAND_MESSAGE = {
     **MESSAGE_OPTIONS,
     "mi": option("an MI command of so many bytes, its check included", ("a length", 8, LONGEST_COMMAND)),
     "admin": option("an Admin command, the same", ("a length", 8, LONGEST_COMMAND)),
@@ -45,8 +37,11 @@ COMMAND_OPTIONS = {
     "nmimt": option("a command of any NMIMT: the NMIMT, the length", ("an NMIMT", 1, 15), ("a length", 8, LONGEST_COMMAND)),
     "opcode": option("the byte behind the header", ("an opcode", 0, 255)),
     "fill": option("zeros, ones, rising or hex bytes, which fill the rest (zeros if not given)"),
-    "tag": option("message tag, as mtag (1 if not given)", ("a message tag", 0, 7)),
     "ror": option("ROR 1: a response and no request"),
+}
+COMMAND_OPTIONS = {
+    **COMMAND_MESSAGE,
+    "tag": option("message tag, as mtag (1 if not given)", ("a message tag", 0, 7)),
     **PACKET_OPTIONS,
 }
 CONTROL_OPTIONS = {
@@ -60,59 +55,58 @@ CONTROL_OPTIONS = {
 }
 
 
-def read_options(words, table):
-    """The options of a line: name to the values that it was given."""
-    found = {}
-    while words:
-        name = words.next("an option")
-        if name not in table:
-            raise LineError(f"expected one of {', '.join(table)}, and there is {name!r}")
-        if name in found:
-            raise LineError(f"expected {name} once, and it is there twice")
-        if name == "fill":
-            found[name] = filling(words.next("zeros, ones, rising or hex bytes"))
-        else:
-            values = [words.number(*given) for given in table[name].given]
-            found[name] = values[0] if len(values) == 1 else values or True
-    return found
-
-
-def filling(word):
-    return PATTERNS[word](256) if word in PATTERNS else hex_of(word)
-
-
 def read_command(words):
     """The packets of a whole command, as the options want them."""
     found = read_options(words, COMMAND_OPTIONS)
-    kinds = [name for name in (*KINDS, "nmimt") if name in found]
-    if len(kinds) != 1:
-        raise LineError("expected one of mi, admin, pcie and nmimt with a length, as in: command slot 0 mi 20")
+    message = command_of(found, "command")
     if "tag" in found and "mtag" in found:
         raise LineError("expected tag or mtag, and not both: in a command they are the same")
+    return cut(message, found, found.get("tag", found.get("mtag", 1)))
+
+
+def command_of(found, word):
+    """The command that the options describe; `word` begins the line of which they are."""
+    kinds = [name for name in (*KINDS, "nmimt") if name in found]
+    if len(kinds) != 1:
+        example = f"{word} slot 0 mi 20"
+        raise LineError(f"expected one of mi, admin, pcie and nmimt with a length, as in: {example}")
     kind, length = found["nmimt"] if kinds == ["nmimt"] else (KINDS[kinds[0]], found[kinds[0]])
     fill = found.get("fill", b"\0")
     if "opcode" in found:
         fill = bytes((found["opcode"],)) + (fill * length)[:max(length - 9, 0)]
     message = command(length, found.get("slot", 0), kind, "ciap" in found, "meb" in found, "ror" in found, fill)
-    return cut(message, found, found.get("tag", found.get("mtag", 1)))
+    return checked(message, found)
+
+
+def checked(message, found):
+    """The message with the integrity check that the options want."""
+    return damaged(message) if "bad-check" in found else message
 
 
 def read_control(words):
     """The packet of a control primitive, as the options want it."""
+    opcode = read_opcode(words)
+    found = read_options(words, CONTROL_OPTIONS)
+    csi = ("ror" in found) << 7 | found.get("slot", 0)
+    message = control(opcode, csi, found.get("tag", 0), cpsp_of(found), "ciap" in found, "meb" in found)
+    return cut(checked(message, found), found, found.get("mtag", 2))
+
+
+def read_opcode(words):
+    """The opcode of a control primitive, by its name or as a number."""
     name = words.next(f"{', '.join(PRIMITIVES)} or an opcode")
     opcode = PRIMITIVES.get(name, number_of(name))
     if opcode is None or opcode > 255:
         raise LineError(f"expected {', '.join(PRIMITIVES)} or an opcode, 0 to 255, and there is {name!r}")
-    found = read_options(words, CONTROL_OPTIONS)
-    csi = ("ror" in found) << 7 | found.get("slot", 0)
-    message = control(opcode, csi, found.get("tag", 0), found.get("cpsp", 0) | ("clear" in found), "ciap" in found, "meb" in found)
-    return cut(message, found, found.get("mtag", 2))
+    return opcode
+
+
+def cpsp_of(found):
+    return found.get("cpsp", 0) | ("clear" in found)
 
 
 def cut(message, found, tag):
     """A function from the endpoint's EID to the packets of the message, as records of a log."""
-    if "bad-check" in found:
-        message = damaged(message)
     starts = range(0, len(message), FULL)
     chosen = list(enumerate(starts))[:found.get("only")][found.get("skip", 0):]
     if not chosen:

@@ -1,16 +1,18 @@
 """Lines, one by one: the calls that they ask for, the answers in words, and what was expected."""
 import textwrap
 
+from call_records import LOOK, REQUESTER_LOOK
 from explain.wording import slots_words
 from second import calls
 
+from . import requester
 from .program import Trouble
+from .requester_telling import requester_lines, requester_look_lines, state_words, who_words
 from .telling import About, event_lines, look_lines, read_lines, response_lines, setup_lines, stores_lines
 from .values import LineError
 from .watching import KINDS, Call, Joiner, Watcher
 from .words import STATES, read_line
 
-LOOK = bytes((calls.LOOK, 0, 0))
 INDENT = " " * 8
 WIDTH = 120
 AT_ENDS = 2                 # calls that are told at each end of a long row
@@ -25,23 +27,32 @@ class Quit(Exception):
 
 
 class Session:
-    """An endpoint under trial.
+    """An endpoint and a requester under trial.
 
     answers   the answers of the last line that called, as numbers
     line      what the program printed for its last call
     body      the body of the last response or control reply that was whole
+    packets   by end, the packets that the other end wrote last for it
     """
 
     def __init__(self, program, write, raw=False, save=None, width=WIDTH):
         self.program, self.write, self.raw, self.save, self.width = program, write, raw, save, width
         self.number, self.answers, self.line, self.body = 0, [], None, None
         self.lent, self.joiner = (4224, 4224), Joiner()
-        self.watcher = Watcher(self.printed(LOOK))
-        self.shown = self.slots_line()
+        self.watcher, self.followed = Watcher(self.printed(LOOK)), None
+        self.shown, self.packets = {"slots": self.slots_line()}, {"endpoint": [], "requester": []}
 
     @property
     def eid(self):
         return self.watcher.endpoint.eid
+
+    @property
+    def requester(self):
+        """The requester. It is looked at when a line first asks for it: a program may have none."""
+        if self.followed is None:
+            self.followed = requester.Requester(self.printed(REQUESTER_LOOK))
+            self.shown["requester"] = state_words(self.followed.look)
+        return self.followed
 
     def ticket(self, slot):
         """The ticket last taken there, else 0."""
@@ -68,18 +79,19 @@ class Session:
         self.row(more())
 
     def row(self, records):
-        self.answers, told, first = [], [], self.number + 1
+        self.answers, self.polled, told, first = [], [], [], self.number + 1
         try:
             for record in records:
                 told.append(self.one(record))
         finally:
             self.tell(first, told)
-            self.tell_slots()
+            self.tell_states()
 
     def one(self, record):
         """Makes a call; its lines."""
         call = Call(record[0], record[3:])
         before = self.watcher.state
+        follower = self.requester if requester.is_call(*call) else None
         self.number += 1
         self.line = self.printed(record)
         if self.line == "bad":
@@ -87,14 +99,17 @@ class Session:
             raise Trouble(f"record {self.number}: the program printed bad and ended: the record is none that it has")
         if call.tag in KINDS:
             return self.event(call, before)
-        return self.other(call)
+        return self.asked(call, follower) if follower else self.other(call)
 
     def event(self, call, before):
         event = self.watcher.event(self.number, call, self.line, self.printed(LOOK))
         self.answers.append(event.answer)
         buffer = int.from_bytes(call.body, "little") if call.tag == calls.POLL else 0
         lines = event_lines(event, About(self.lent, buffer), before, self.watcher.state)
+        if call.tag == calls.POLL:
+            self.packets["requester"] = self.polled
         if event.sent:
+            self.polled.append(event.sent)
             lines += self.sent(event)
         if self.line.endswith(" touched"):
             lines.append("!! bytes of the buffer behind the packet were touched")
@@ -108,6 +123,16 @@ class Session:
         message, packets = whole
         self.body = message[4:-4]
         return [] if event.primitive else [f"   {line}" for line in response_lines(message, packets)]
+
+    def asked(self, call, follower):
+        """A call of the requester."""
+        event = follower.event(self.number, call, self.line, self.printed(REQUESTER_LOOK))
+        self.answers.append(event.answer)
+        if call.tag in requester.WRITING:
+            self.packets["endpoint"] = event.packets
+        if event.answer in requester.WHOLE:
+            self.body = event.message[4:-4]
+        return requester_lines(event)
 
     def other(self, call):
         """A call that no log has."""
@@ -161,17 +186,26 @@ class Session:
     def slots_line(self):
         return slots_words(self.watcher.view)
 
-    def tell_slots(self):
-        """What the slots are, if they are otherwise than was told before."""
-        shown = self.slots_line()
-        if shown != self.shown:
-            self.put("", [f"= {shown}"])
-        self.shown = shown
+    def tell_states(self):
+        """What the slots are, and what the requester awaits, if they are otherwise than was told before."""
+        states = {"slots": self.slots_line()}
+        if self.followed:
+            states["requester"] = state_words(self.followed.look)
+        for name, words in states.items():
+            if words != self.shown[name]:
+                self.put("", [f"= {words}"])
+        self.shown = states
 
     def look(self):
         self.line = self.printed(LOOK)
         self.watcher.look_at(self.line)
         self.put("", look_lines(self.watcher.state, self.watcher.view, self.lent))
+
+    def look_at_requester(self):
+        found = self.requester
+        self.line = self.printed(REQUESTER_LOOK)
+        found.look = requester.read_look(self.line)
+        self.put("", requester_look_lines(found.look, found.lent))
 
     # What was expected
 
@@ -187,6 +221,14 @@ class Session:
 
     def expect_body(self, body):
         self.compare("the body", "", body.hex(" "), "none" if self.body is None else self.body.hex(" "))
+
+    def expect_awaits(self, who):
+        found = self.requester.look.awaits
+        self.compare("the awaiting", "", who_words(who), who_words(found))
+
+    def expect_gathered(self, length):
+        found = self.requester.look.assembly
+        self.compare("the gathered length", "", str(length), str(found.length if found else 0))
 
     def expect_line(self, line):
         self.compare("the line", "", line, self.line or "none")

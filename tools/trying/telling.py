@@ -14,6 +14,7 @@ SHOWN = 20                  # bytes that are shown of a body
 SHORT_BUFFER = 36
 STORE, BUFFER = 4224, 68
 SHORTEST = 12               # bytes of the shortest response: header, status with three bytes, check
+ODD = "!! the answer does not go with what a look shows"
 
 # What is told of a call beside its event: the lent lengths of the stores, and the buffer's length of a poll
 About = namedtuple("About", "lent buffer")
@@ -30,7 +31,7 @@ def hex_words(data):
 
 def event_lines(event, about, before, after):
     """An event in lines; `before` and `after` are the states."""
-    odd = ["!! the answer does not go with what a look shows"] if event.differs else []
+    odd = [ODD] if event.differs else []
     return ["; ".join(called_words(event, about)), f"-> {answer(event, about)}", *odd,
             *(f"   {words}" for words in (*effect_words(event), *store_words(event, before, after)))]
 

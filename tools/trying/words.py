@@ -2,18 +2,13 @@
 
 A reader takes the words of a line and gives a function of the session, so that a line is read whole before anything is called.
 """
-from collections import namedtuple
-
 import call_records
 from second import calls
 
 from . import messages
+from .forms import Word, option_usage
+from .requester_words import DELIVER, LENGTH, NUMBER, REQUESTER
 from .values import LineError, Words, number_of
-
-Word = namedtuple("Word", "usage meaning read options", defaults=({},))
-
-NUMBER = 0xFFFFFFFF
-LENGTH = 0xFFFF
 
 # The states of a slot as `expect` names them, and as the second program does
 STATES = {"idle": "Idle", "receive": "Receive", "untaken": "Process untaken", "taken": "Process taken",
@@ -101,7 +96,7 @@ def read_alone(act):
 
 
 def read_expect(words):
-    form = words.next("an answer's number, slot, body or line")
+    form = words.next("an answer's number, slot, body, line, awaits or gathered")
     if form in EXPECTATIONS:
         return EXPECTATIONS[form](words)
     words.words.insert(0, form)
@@ -134,13 +129,27 @@ def read_expect_line(words):
     return lambda session: session.expect_line(line)
 
 
-EXPECTATIONS = {"slot": read_expect_slot, "body": read_expect_body, "line": read_expect_line}
+def read_expect_awaits(words):
+    if words.words == ["nothing"]:
+        return lambda session: session.expect_awaits(None)
+    who = words.number("nothing, or a source EID", 0, 255), words.number("a message tag", 0, 7)
+    words.end()
+    return lambda session: session.expect_awaits(who)
+
+
+def read_expect_gathered(words):
+    length = words.number("a number of gathered bytes", 0, LENGTH)
+    words.end()
+    return lambda session: session.expect_gathered(length)
+
+
+EXPECTATIONS = {"slot": read_expect_slot, "body": read_expect_body, "line": read_expect_line,
+                "awaits": read_expect_awaits, "gathered": read_expect_gathered}
 
 
 def read_help(words):
-    name = words.next("a word") if words else None
-    words.end()
-    if name is not None and name not in WORDS:
+    name = " ".join(words.words)
+    if not begun_with(name):
         raise LineError(f"expected one of {', '.join(WORDS)}, and there is {name!r}")
     return lambda session: session.write("".join(f"{line}\n" for line in help_lines(name)))
 
@@ -165,29 +174,42 @@ WORDS = {
     "stores": Word("stores LENGTH LENGTH", "lends stores of these lengths from here on (right are 4224 4224)", read_stores),
     "look": Word("look", "the whole state", read_alone(lambda session: session.look())),
     "record": Word("record TAG [BYTES]", "any record of the calls program, as it is", read_record),
-    "expect": Word("expect NUMBER [NUMBER ..] | slot N STATE | body BYTES | line LINE",
+    **REQUESTER,
+    "deliver": DELIVER,
+    "expect": Word("expect NUMBER [NUMBER ..] | slot N STATE | body BYTES | line LINE | awaits WHOM |"
+                   " gathered N",
                    "fails if the last answer was another (several numbers: the answers of the last line that called, in order);\n"
                    f"    if the slot is in another state than STATE ({', '.join(STATES)});\n"
-                   "    if the last whole response or control reply has another body; or if the program's last line was another",
+                   "    if the last whole response or control reply has another body;\n"
+                   "    if the program's last line was another;\n"
+                   "    if the requester awaits another than WHOM (SOURCE TAG, or nothing);\n"
+                   "    or if it has gathered another number of bytes",
                    read_expect),
-    "help": Word("help [WORD]", "this list, or all about a word", read_help),
+    "help": Word("help [WORD]", "this list, or all about a word; help requester: all of the requester's",
+                 read_help),
     "quit": Word("quit", "ends, as Ctrl-D does", read_alone(lambda session: session.quit())),
 }
 NOTES = ("BYTES are hex (01 0809 c9), zeros N, ones N or rising N, in any order. Numbers are decimal, or hex as 0x5a or 5Ah.",
          "# begins a comment. Words and options are looked up with: help WORD")
 
 
-def help_lines(name=None):
-    """All words, or one with its options."""
-    if name is None:
-        return [line for word in WORDS.values() for line in (word.usage, f"    {word.meaning}")] + ["", *NOTES]
-    word = WORDS[name]
-    return [word.usage, f"    {word.meaning}", *(f"    {option_usage(name, found):22}{found.meaning}"
-                                                 for name, found in word.options.items())]
+def begun_with(name):
+    """The words of the table that are this one or begin with it, as several do with `requester`."""
+    return [found for found in WORDS if not name or f"{found} ".startswith(f"{name} ")]
 
 
-def option_usage(name, found):
-    return " ".join((name, *(given.split()[-1].upper() for given, _, _ in found.given), *(("BYTES",) if name == "fill" else ())))
+def help_lines(name=""):
+    """All words, some, or one with its options."""
+    found = [WORDS[each] for each in begun_with(name)]
+    lines = [line for word in found for line in (word.usage, f"    {word.meaning}")]
+    options = found[0].options if len(found) == 1 else {}
+    return [*lines, *(f"    {option_usage(name, each):22}{each.meaning}" for name, each in options.items()),
+            *(("", *NOTES) if not name else ())]
+
+
+def word_of(words):
+    """The word of the table that a line begins with, which has two parts for the requester; None for none."""
+    return next((name for name in (words[0], " ".join(words[:2])) if name in WORDS), None)
 
 
 def read_line(line):
@@ -195,6 +217,8 @@ def read_line(line):
     words = line.partition("#")[0].split()
     if not words:
         return None
-    if words[0] not in WORDS:
-        raise LineError(f"expected one of {', '.join(WORDS)}, and there is {words[0]!r}")
-    return WORDS[words[0]].read(Words(words[1:]))
+    name = word_of(words)
+    if name is None:
+        there = " ".join(words[:2 if begun_with(words[0]) else 1])
+        raise LineError(f"expected one of {', '.join(begun_with(words[0]) or WORDS)}, and there is {there!r}")
+    return WORDS[name].read(Words(words[len(name.split()):]))

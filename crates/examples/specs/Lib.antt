@@ -2,3 +2,4 @@ pub mod Examples
 pub mod Runs
 pub mod Premises
 pub mod Replies
+pub mod Exchange

@@ -37,3 +37,9 @@ and-both false b e = false-true e
 
 pub both-and : (a b : Bool) → a ≡ true → b ≡ true → (a && b) ≡ true
 both-and a b p q = rw (p, q) refl
+
+-- two choices side by side, whose tests are equal: what relates their answers relates the choices
+pub row {ℓ κ μ} : {A : Type ℓ} {B : Type κ} (R : A → B → Type μ) (b c : Bool) {x y : A} {u v : B} → b ≡ c → (c ≡ true → R x u) → (c ≡ false → R y v)
+    → R (if b then x else y) (if c then u else v)
+row R b true e f g = rw e (f refl)
+row R b false e f g = rw e (g refl)

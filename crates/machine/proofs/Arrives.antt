@@ -143,6 +143,13 @@ there-by i is h g late some = by (phaseAt (h .world) i) refl late
 
 -- ---- a completion that is accepted
 
+pub process-early : {A : Type 0} (p : Phase) → isEarly p ≡ true → isProcess p ≡ true → A
+process-early Idle x a = false-true a
+process-early (Receive r) x a = false-true a
+process-early (Process r) x a = false-true x
+process-early (Answered r) x a = false-true x
+process-early (Transmit r) x a = false-true x
+
 -- a command in Process is behind Receive still, after a call that does not cut its slot off
 late-steady : {C : Type 0} {p q : Phase} → Steady C p q → isProcess p ≡ true → (C → ⊥) → isEarly q ≡ false
 late-steady {p = p} (same e) a n = rw e (process-late p a)
@@ -154,13 +161,6 @@ late-steady {p = p} (same e) a n = rw e (process-late p a)
     process-late (Answered r) h = refl
     process-late (Transmit r) h = refl
 late-steady {p = p} (newly x y) a n = process-early p x a
-  where
-    process-early : {A : Type 0} (p : Phase) → isEarly p ≡ true → isProcess p ≡ true → A
-    process-early Idle x a = false-true a
-    process-early (Receive r) x a = false-true a
-    process-early (Process r) x a = false-true x
-    process-early (Answered r) x a = false-true x
-    process-early (Transmit r) x a = false-true x
 late-steady (released x b d) a n = rw d refl
 late-steady (handed-over x b d) a n = rw d refl
 late-steady (worked x b y d e) a n = ap isEarly e ∙ settled-late b y

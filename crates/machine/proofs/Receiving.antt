@@ -1,6 +1,6 @@
 -- Every way through "Receiving", walked once: a property that each of its steps keeps or leads to, a received packet has.
 -- Assumes nothing.
-use Prim.Native.Nat.{ℕ, suc, _+_, _%_, _≤_}
+use Prim.Native.Nat.{ℕ, _+_, _%_, _≤_}
 use mathlib.Core.Path.{_≡_, refl, sym}
 use mathlib.Core.Bool.{Bool, true, false, not, _&&_, _||_}
 use mathlib.Core.List.{List}
@@ -10,15 +10,16 @@ use lib.Dec.{eqb, ltb}
 use lib.ListN.{length, take, length-drop}
 use borrow.Author.Tests.{ltb-false, eqb-true, not-true, not-false}
 use Rattle.lent.specs.Bytes.{byteAt, isSet, put}
-use Rattle.lent.proofs.Choice.{if-ind, if-second, or-left, or-right, false-true, differ}
+use Rattle.lent.proofs.Choice.{if-ind, if-second, or-left, or-right, false-true}
 use Rattle.mctp.specs.Header.{readHeader, fields, same, payloadOf}
 use Rattle.mctp.specs.Gather.{isCut, joinRefusal, no-assembly, not-full}
 use Rattle.mctp.specs.declared.Header.{Header}
 use Rattle.mctp.specs.declared.Read.{Read}
 use Rattle.mctp.specs.declared.Read.the-variants.{Refused, Packet}
+use Rattle.mctp.proofs.Laws.{not-read, packet-sized, joins}
 use Rattle.nvme_mi.specs.Message.{message-type, control, messageHeader, smallest, control-size}
 use Rattle.nvme_mi.specs.Check.{checkRight}
-use Rattle.opening.specs.Opening.{opened, joinedIn, check-wrong, not-a-request, message-too-short, not-twelve}
+use Rattle.opening.specs.Opening.{opened, joinedIn, check-wrong, wrong-message, message-too-short, not-twelve}
 use Rattle.opening.specs.declared.First.{First}
 use Rattle.opening.specs.declared.Joined.{Joined}
 use Rattle.machine.specs.Answers.{more-to-come, command-complete, control-done}
@@ -47,26 +48,10 @@ pub record Sized (packet : List ℕ) : Type 0 where
   pub some : 1 ≤ length (payloadOf packet)
   pub most : length (payloadOf packet) ≤ unit
 
-not-read : {A : Type 0} {n : ℕ} {h : Header} → Refused n ≡ Packet h → A
-not-read e = differ (cc e)
-
--- a packet that is read has a header and 1 to 64 payload bytes
-pub packet-sized : (eid : ℕ) (packet : List ℕ) {h : Header} → readHeader eid unit inward packet ≡ Packet h → (5 ≤ length packet) × (length packet ≤ 68)
-unfolding readHeader
-packet-sized eid packet e =
-    let a = if-second (ltb (length packet) 5) not-read e in
-    let b = if-second (ltb (unit + 4) (length packet)) not-read (a .1) in
-    (ltb-false (length packet) 5 (a .0), ltb-false 68 (length packet) (b .0))
-
 read-sized : (eid : ℕ) (packet : List ℕ) {h : Header} → readHeader eid unit inward packet ≡ Packet h → Sized packet
 read-sized eid packet e =
-    let k = packet-sized eid packet e in
+    let k = packet-sized eid unit inward packet e in
     record { some = rw (length-drop 4 packet) (omega (arith, k .0)); most = rw (length-drop 4 packet) (omega (arith, k .1)) }
-
--- a later packet that is not refused joins
-pub record Joins (unit limit : ℕ) (h : Header) (gathered n : ℕ) : Type 0 where
-  pub whole-unit : isCut unit h n ≡ false
-  pub fits : gathered + n ≤ limit
 
 -- a header's refusal has a number from 10 to 14
 abbrev Numbered : Read → Type 0
@@ -116,17 +101,6 @@ read-facts eid packet {h} e =
 
     packet-is : Packet (fields packet) ≡ Packet h → h ≡ fields packet
     packet-is q = cc
-
-not-zero : {A : Type 0} (n : ℕ) → suc n ≡ 0 → A
-not-zero n e = absurd (omega arith)
-
-pub joins : (unit limit sequence gathered n : ℕ) (h : Header) → joinRefusal unit limit sequence gathered h n ≡ 0 → Joins unit limit h gathered n
-unfolding joinRefusal
-joins unit limit sequence gathered n h e =
-    let a = if-second (not (eqb (h .sequence) ((sequence + 1) % 4))) (not-zero 21) e in
-    let b = if-second (isCut unit h n) (not-zero 15) (a .1) in
-    let c = if-second (ltb limit (gathered + n)) (not-zero 22) (b .1) in
-    record { whole-unit = b .0; fits = ltb-false limit (gathered + n) (c .0) }
 
 pub right-stores : (w : World) → Sound w → wrongStores w ≡ false
 right-stores w s = rw (s .size0, s .size1) refl
@@ -289,13 +263,13 @@ module _ (w₀ : World) (packet : List ℕ) (P : World → Type 0) (Q : Outcome 
   first-walk : (w : World) → readHeader (w₀ .endpoint .eid) unit inward packet ≡ Packet H → Free w → H .som ≡ true → length M ≤ unit → P w → Q (first w H M)
   unfolding first opened
   first-walk w read-so free som hi p =
-      if-ind R (not (eqb (byteAt M 0) message-type)) (λ _. k .refusing w not-a-request (in-table som (omega arith) (omega arith)) p)
+      if-ind R (not (eqb (byteAt M 0) message-type)) (λ _. k .refusing w wrong-message (in-table som (omega arith) (omega arith)) p)
       (λ typed.
       if-ind R (isCut unit H (length M)) (λ _. k .refusing w not-full (in-table som (omega arith) (omega arith)) p)
       (λ cut.
       if-ind R (H .eom && ltb (length M) smallest) (λ _. k .refusing w message-too-short (in-table som (omega arith) (omega arith)) p)
       (λ short.
-      if-ind R (not (same (messageHeader M .ror) false)) (λ _. k .refusing w not-a-request (in-table som (omega arith) (omega arith)) p)
+      if-ind R (not (same (messageHeader M .ror) false)) (λ _. k .refusing w wrong-message (in-table som (omega arith) (omega arith)) p)
       (λ request.
       if-ind R (not (eqb (messageHeader M .nmimt) control))
       (λ _. command-walk w read-so free som hi cut (whole-message H (length M) short) (full-unit H (length M) cut) p)

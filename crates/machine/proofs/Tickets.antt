@@ -53,7 +53,7 @@ module _ (i : ℕ) (is : i ≤ 1) (first : ℕ) (request : List ℕ) where
             kept = λ k p. let q = f p in q .1 ∙ s .kept (sym e ∙ k) (q .0);
           })
 
-  since-run : (cs : List Call) (h : History) → Good h → Since h → Since (run cs h)
+  pub since-run : (cs : List Call) (h : History) → Good h → Since h → Since (run cs h)
   unfolding run
   since-run [] h g s = s
   since-run (c ∷ cs) h g s = since-run cs (next c h) (good-next c h g) (since-next c h g s)
@@ -126,7 +126,7 @@ pub record TakeKeeps (l m : Trace) : Type 0 where
   pub entries-are : m .entries ≡ l .entries
   pub request-is : m .request ≡ l .request
 
-take-keeps : (h : History) (i : ℕ) → TakeKeeps (h .trace i) (next (take! i) h .trace i)
+pub take-keeps : (h : History) (i : ℕ) → TakeKeeps (h .trace i) (next (take! i) h .trace i)
 unfolding next
 take-keeps h i = sent (phaseAt (h .world) i) (phaseAt (step (take! i) (h .world) .world) i) (step (take! i) (h .world) .event) _ (by (step (take! i) (h .world) .event))
   where

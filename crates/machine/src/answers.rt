@@ -12,8 +12,8 @@ pub use mctp::WRONG_DIRECTION;
 pub use mctp::WRONG_VERSION;
 pub use opening::CHECK_WRONG;
 pub use opening::MESSAGE_TOO_SHORT;
-pub use opening::NOT_A_REQUEST;
 pub use opening::NOT_TWELVE;
+pub use opening::WRONG_MESSAGE;
 
 pub const MORE_TO_COME: u8 = 0;
 

@@ -54,7 +54,7 @@ opens unit limit (whole m) h p e = rw e
 
 module _ (unit limit : ℕ) (route : Route) (message : List ℕ) (pos : 0 < unit) (fits : length message ≤ limit) where
   -- packet k carries a whole unit or has EOM
-  full : (k : ℕ) → unit * k < length message → isCut unit (headerOf unit route message k) (length (payload unit message k)) ≡ false
+  pub full : (k : ℕ) → unit * k < length message → isCut unit (headerOf unit route message k) (length (payload unit message k)) ≡ false
   full k inside =
       not-cut _ _
       (λ h. let more-left : unit < length message - unit * k = leb-false _ _ (sym (last-left unit (length message) k pos inside) ∙ h) in
@@ -70,7 +70,7 @@ module _ (unit limit : ℕ) (route : Route) (message : List ℕ) (pos : 0 < unit
       take-all (unit * (k + 1)) message (omega arith)))
 
   -- a later packet is not refused
-  no-refusal : (k : ℕ) → unit * suc k < length message
+  pub no-refusal : (k : ℕ) → unit * suc k < length message
       → joinRefusal unit limit (k % 4) (length (take (unit * (k + 1)) message)) (headerOf unit route message (suc k)) (length (payload unit message (suc k))) ≡ 0
   unfolding joinRefusal
   no-refusal k inside =

@@ -11,11 +11,13 @@ use mathlib.Core.List.{List, [], _∷_, _++_}
 use lib.Dec.{eqb, leb, ltb, lit<}
 use lib.ListN.{length, take, length-take, length-drop}
 use lib.Seq.{take-add}
-use borrow.Author.Tests.{leb-true, eqb-true, le-leb, le-ltb, eq-eqb}
+use borrow.Author.Tests.{leb-true, eqb-true, ltb-false, le-leb, le-ltb, eq-eqb}
 use Rattle.lent.specs.Choice.{if_then_else_}
 use Rattle.lent.specs.Bytes.{byteAt, isSet}
+use Rattle.lent.proofs.Choice.{if-second, differ}
 use Rattle.mctp.specs.Header.{bit, same, headerBytes, fields, readHeader, readSays, headerNumbers, too-short, too-long, wrong-version, not-ours, wrong-direction}
 use Rattle.mctp.specs.Cut.{packets, payload, packet}
+use Rattle.mctp.specs.Gather.{isCut, joinRefusal}
 use Rattle.mctp.specs.declared.Header.{Header}
 use Rattle.mctp.specs.declared.Route.{Route}
 use Rattle.mctp.specs.declared.Read.the-variants.{Refused, Packet}
@@ -103,7 +105,7 @@ bit-set : (b : Bool) → eqb (bit b 1) 1 ≡ b
 bit-set true = refl
 bit-set false = refl
 
-same-self : (b : Bool) → same b b ≡ true
+pub same-self : (b : Bool) → same b b ≡ true
 same-self true = refl
 same-self false = refl
 
@@ -135,6 +137,33 @@ read-of-cut unit route message k pos inside =
     let n = payload-length unit message k in
     read-bytes (route .destination) (route .source) unit (eqb k 0) (eqb (k + 1) (packets unit (length message))) (route .to) k (route .tag)
     (payload unit message k) (omega arith) (omega arith)
+
+-- a packet that is read has a header and 1 to `unit` payload bytes
+pub not-read : {A : Type 0} {n : ℕ} {h : Header} → Refused n ≡ Packet h → A
+not-read e = differ (cc e)
+
+pub packet-sized : (eid unit : ℕ) (to : Bool) (packet : List ℕ) {h : Header} → readHeader eid unit to packet ≡ Packet h → (5 ≤ length packet) × (length packet ≤ unit + 4)
+unfolding readHeader
+packet-sized eid unit to packet e =
+    let a = if-second (ltb (length packet) 5) not-read e in
+    let b = if-second (ltb (unit + 4) (length packet)) not-read (a .1) in
+    (ltb-false (length packet) 5 (a .0), ltb-false (unit + 4) (length packet) (b .0))
+
+-- a later packet that is not refused joins
+pub record Joins (unit limit : ℕ) (h : Header) (gathered n : ℕ) : Type 0 where
+  pub whole-unit : isCut unit h n ≡ false
+  pub fits : gathered + n ≤ limit
+
+not-zero : {A : Type 0} (n : ℕ) → suc n ≡ 0 → A
+not-zero n e = absurd (omega arith)
+
+pub joins : (unit limit sequence gathered n : ℕ) (h : Header) → joinRefusal unit limit sequence gathered h n ≡ 0 → Joins unit limit h gathered n
+unfolding joinRefusal
+joins unit limit sequence gathered n h e =
+    let a = if-second (not (eqb (h .sequence) ((sequence + 1) % 4))) (not-zero 21) e in
+    let b = if-second (isCut unit h n) (not-zero 15) (a .1) in
+    let c = if-second (ltb limit (gathered + n)) (not-zero 22) (b .1) in
+    record { whole-unit = b .0; fits = ltb-false limit (gathered + n) (c .0) }
 
 -- ---- the header reader's answers in numbers
 

@@ -1,2 +1,4 @@
 pub mod Laws
 pub mod Gathering
+pub mod Feeding
+pub mod Ends

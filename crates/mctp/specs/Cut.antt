@@ -34,3 +34,14 @@ cutFrom unit route message k (suc n) = packet unit route message k ∷ cutFrom u
 unfoldable pub cut : ℕ → Route → List ℕ → List (List ℕ)
 unfolding cutFrom
 cut unit route message = cutFrom unit route message 0 (packets unit (length message))
+
+-- ---- packets that lie end to end in one buffer
+
+abbrev pub endToEnd : List (List ℕ) → List ℕ
+endToEnd [] = []
+endToEnd (p ∷ ps) = p ++ endToEnd ps
+
+-- n packets taken from the buffer one after the other: `size` bytes each, and then the rest
+abbrev pub pieces : ℕ → ℕ → List ℕ → List (List ℕ)
+pieces size zero s = []
+pieces size (suc n) s = take size s ∷ pieces size n (drop size s)

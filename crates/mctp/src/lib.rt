@@ -2,7 +2,7 @@
 // The unit, the largest payload of a packet, and the direction, bit TO, are arguments throughout.
 ghost use mathlib.Core.Path.{_≡_};
 ghost use mathlib.Core.List.{_++_};
-ghost use Prim.Native.Nat.{min, _+_, _*_, _≤_, _<_};
+ghost use Prim.Native.Nat.{min, _+_, _-_, _*_, _≤_, _<_};
 ghost use lib.ListN.{length, drop};
 ghost use Rattle.mctp.specs.Header.{readHeader, readSays, headerNumbers, headerBytes, bit as Header·bit};
 ghost use Rattle.mctp.specs.Cut.{packets, packet};
@@ -93,6 +93,16 @@ pub fn read_header(eid: u8, unit: usize, to: bool, packet: &[u8]) -> Read
     })
 }
 
+// The number of what reading a header answers.
+pub fn refusal_of(read: Read) -> u8
+    ensures { λ r. ⌜ r ≡ readSays read .0 ⌝ }
+{
+    match read {
+        Read::Refused(n) => n,
+        Read::Packet(_) => NO_REFUSAL,
+    }
+}
+
 // EOM 0, and the payload of n bytes is not a whole unit.
 pub fn is_cut(unit: usize, header: Header, n: usize) -> bool
     ensures { λ r. ⌜ r ≡ isCut unit header n ⌝ }
@@ -162,7 +172,7 @@ fn write_header(route: Route, som: bool, eom: bool, sequence: usize, out: &mut [
 
 // Writes packet k of a message to the front of `out`, and returns the packet's length. Bytes behind the packet stay.
 pub fn write_packet(unit: usize, route: Route, message: &[u8], k: usize, out: &mut [u8]) -> usize
-    requires { ⌜ (0 < unit) × (unit * k < length (now message)) × (unit + 4 ≤ length (now out)) ⌝ }
+    requires { ⌜ (0 < unit) × (unit * k < length (now message)) × (4 + min unit (length (now message) - unit * k) ≤ length (now out)) ⌝ }
     ensures { λ r. ⌜ r ≡ length (packet unit route (now (message .entry)) k) ⌝ }
     ensures { λ r. ⌜ now (out .exit) ≡ packet unit route (now (message .entry)) k ++ drop r (now (out .entry)) ⌝ }
 {

@@ -17,4 +17,11 @@ leastSize tag =
     else if eqb tag 23 then 4
     else if eqb tag 24 then 0
     else if eqb tag 25 then 0
+    else if eqb tag 32 then 1
+    else if eqb tag 33 then 2
+    else if eqb tag 34 then 2
+    else if eqb tag 35 then 4
+    else if eqb tag 36 then 12
+    else if eqb tag 37 then 0
+    else if eqb tag 38 then 0
     else 1

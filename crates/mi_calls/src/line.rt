@@ -25,6 +25,16 @@ pub(crate) fn byte(n: u8) -> u64
     n as u64
 }
 
+// The number of an answer, with which its line begins.
+pub(crate) fn answered(n: u8) -> bool {
+    number(true, byte(n))
+}
+
+// An answer, and the number beside it.
+pub(crate) fn answered_with(n: u8, value: u64) -> bool {
+    field(answered(n), b" ", value)
+}
+
 // Bytes in hex, `-` where there are none.
 pub(crate) fn hex(on: bool, bytes: &[u8]) -> bool {
     if bytes.len() == 0 {

@@ -1,9 +1,11 @@
-// The whole state of the endpoint in words, and a check of each store's lent bytes.
+// The whole state of the endpoint and of the requester in words, and a check of each store's lent bytes.
 use crate::line::byte;
 use crate::line::field;
 use crate::line::hex;
 use crate::line::hex_number;
 use crate::line::say;
+use controller::Awaiting;
+use controller::Requester;
 use machine::Endpoint;
 use machine::Phase;
 use machine::Request;
@@ -16,9 +18,24 @@ fn flag(b: bool) -> u64 {
     if b { 1 } else { 0 }
 }
 
+// A word, and two numbers behind it.
+fn two(on: bool, word: &[u8], a: u64, b: u64) -> bool {
+    field(field(on, word, a), b":", b)
+}
+
 // A word, and three numbers behind it.
 fn three(on: bool, word: &[u8], a: u64, b: u64, c: u64) -> bool {
-    field(field(field(on, word, a), b":", b), b":", c)
+    field(two(on, word, a, b), b":", c)
+}
+
+// The EID, and the largest payload.
+fn wire_words(on: bool, eid: u8) -> bool {
+    field(field(on, b"eid=", byte(eid)), b" unit=", UNIT as u64)
+}
+
+// The check of a store's lent bytes.
+fn check_words(on: bool, name: &[u8], store: &[u8]) -> bool {
+    hex_number(say(on, name), crc32c::crc32c(store) as u64, 8)
 }
 
 fn taking_words(on: bool, taking: Taking) -> bool {
@@ -77,20 +94,18 @@ fn reply_words(on: bool, waits: bool, to: u8, tag: u8, reply: &[u8]) -> bool {
     if !waits {
         return say(on, b" reply=-");
     }
-    let on = field(on, b" reply=", byte(to));
-    let on = field(on, b":", byte(tag));
+    let on = two(on, b" reply=", byte(to), byte(tag));
     hex(say(on, b":"), reply)
 }
 
 fn number_words(on: bool, eid: u8, flags: u16, turn: usize, last_control: bool) -> bool {
-    let on = field(on, b"eid=", byte(eid));
-    let on = field(on, b" unit=", UNIT as u64);
+    let on = wire_words(on, eid);
     let on = hex_number(say(on, b" flags="), flags as u64, 4);
     let on = field(on, b" turn=", turn as u64);
     field(on, b" last=", flag(last_control))
 }
 
-// The state, and what is lent beside it.
+// The endpoint's state, and what is lent beside it.
 pub(crate) fn look(on: bool, endpoint: Endpoint, store0: &[u8], store1: &[u8]) -> bool {
     let on = number_words(
         on,
@@ -109,6 +124,27 @@ pub(crate) fn look(on: bool, endpoint: Endpoint, store0: &[u8], store1: &[u8]) -
     );
     let on = slot_words(on, b" slot0=", endpoint.slots[0]);
     let on = slot_words(on, b" slot1=", endpoint.slots[1]);
-    let on = hex_number(say(on, b" check0="), crc32c::crc32c(store0) as u64, 8);
-    hex_number(say(on, b" check1="), crc32c::crc32c(store1) as u64, 8)
+    check_words(check_words(on, b" check0=", store0), b" check1=", store1)
+}
+
+// What is awaited, from whom and under which tag, and what was gathered of it.
+fn awaiting_words(on: bool, awaiting: Awaiting) -> bool {
+    match awaiting {
+        Awaiting::Nothing => say(on, b" awaits=- assembly=-"),
+        Awaiting::Awaited(key) => {
+            let on = two(on, b" awaits=", byte(key.source), byte(key.tag));
+            say(on, b" assembly=-")
+        }
+        Awaiting::Gathering(a) => {
+            let on = two(on, b" awaits=", byte(a.source), byte(a.tag));
+            two(on, b" assembly=", byte(a.sequence), a.length as u64)
+        }
+    }
+}
+
+// The requester's state, and what is lent beside it.
+pub(crate) fn requester_look(on: bool, requester: Requester, store: &[u8]) -> bool {
+    let awaiting = requester.awaiting;
+    let on = awaiting_words(wire_words(on, requester.eid), awaiting);
+    check_words(on, b" check=", store)
 }

@@ -1,23 +1,30 @@
-// The calls program: reads records on standard input, each a call with all its arguments, and prints a line for each. Each line is
-// written before the next record is read, so that a pipe can be used live. The contracts keep the state's invariant; what is printed is compared
-// with the second program.
+// The calls program: reads records on standard input, each a call of the endpoint or of the requester with all its arguments, and prints a line for
+// each. Each line is written before the next record is read, so that a pipe can be used live. The contracts keep the invariants of both ends; what is
+// printed is compared with the second program.
+mod buffer;
 mod line;
 mod look;
 mod record;
+mod requester_record;
+mod tags;
 mod words;
 
 ghost use mathlib.Core.Path.{_≡_};
 ghost use mathlib.Core.Bool.{true, false};
 ghost use Prim.Native.Nat.{_+_, _≤_};
 ghost use lib.ListN.{length};
-ghost use Rattle.machine.specs.Valid.{Valid};
+ghost use Rattle.mi_calls.specs.Session.{Kept};
 ghost use Rattle.mi_calls.specs.Sizes.{leastSize};
+use controller::Requester;
 use line::say;
 use machine::Endpoint;
 use machine::sizes::STORE_SIZE;
-use record::STORES;
 use record::called;
-use record::is_record;
+use requester_record::requester_called;
+use tags::REQUESTER_STORE;
+use tags::STORES;
+use tags::is_record;
+use tags::is_requesters;
 use words::half;
 
 // Tag and length.
@@ -26,7 +33,7 @@ const HEAD_SIZE: usize = 3;
 // The memory of a store, whose front is lent.
 const MEMORY: usize = 4300;
 
-// The endpoint's EID at the start.
+// The EID of the endpoint and of the requester at the start.
 const EID: u8 = 8;
 
 // What was read: how many bytes, and whether a read failed.
@@ -70,14 +77,6 @@ fn filled(buf: &mut [u8]) -> Got
     }
 }
 
-// The endpoint, how much of each store's memory is lent, and whether there is more to do.
-struct Session {
-    endpoint: Endpoint,
-    length0: usize,
-    length1: usize,
-    on: bool,
-}
-
 // What ends the program where a record is wanted: a read that failed is told, and a record that is none prints `bad`.
 fn broken(failed: bool) {
     if failed {
@@ -102,57 +101,33 @@ fn line_end(on: bool) -> bool {
     whole
 }
 
-// How much of each store is lent from here on, of m0 and m1 bytes of memory. More than that is `bad`.
-struct Lengths {
+// Both ends, how much of each store's memory is lent, the endpoint's two and the requester's, and whether there is more to do.
+struct Session {
+    endpoint: Endpoint,
+    requester: Requester,
     length0: usize,
     length1: usize,
+    length: usize,
     on: bool,
 }
 
-fn lent_anew(m0: usize, m1: usize, body: &[u8]) -> Lengths
-    requires { ⌜ 4 ≤ length (now body) ⌝ }
-    ensures { λ r. ⌜ (r .length0 ≤ m0) × (r .length1 ≤ m1) ⌝ }
+// So much of each store is lent from here on. More than its memory is `bad`.
+fn lent_anew(session: Session, length0: usize, length1: usize, length: usize) -> Session
+    requires { ⌜ Kept session ⌝ }
+    ensures { λ r. ⌜ Kept r ⌝ }
 {
-    let length0 = half(body, 0);
-    let length1 = half(body, 2);
-    if length0 > m0 || length1 > m1 {
+    if length0 > MEMORY || length1 > MEMORY || length > MEMORY {
         broken(false);
-        return Lengths {
-            length0: 0,
-            length1: 0,
-            on: false,
-        };
-    }
-    Lengths {
-        length0,
-        length1,
-        on: line_end(say(true, b"0")),
-    }
-}
-
-// Does what a whole record says, and writes its line.
-fn recorded(session: Session, store0: &mut [u8], store1: &mut [u8], tag: u8, body: &[u8]) -> Session
-    requires { ⌜ Valid (session .endpoint) × (session .length0 ≤ length (now store0)) × (session .length1 ≤ length (now store1)) × (leastSize tag ≤ length (now body)) ⌝ }
-    ensures { λ r. ⌜ Valid (r .endpoint) × (r .length0 ≤ length (now (store0 .exit))) × (r .length1 ≤ length (now (store1 .exit))) ⌝ }
-{
-    if tag == STORES {
-        let anew = lent_anew(store0.len(), store1.len(), body);
         return Session {
-            length0: anew.length0,
-            length1: anew.length1,
-            on: anew.on,
+            on: false,
             ..session
         };
     }
-    let n0 = session.length0;
-    let n1 = session.length1;
-    let lent0 = &mut store0[..n0];
-    let lent1 = &mut store1[..n1];
-    let step = called(session.endpoint, lent0, lent1, tag, body);
-    let endpoint = step.endpoint;
     Session {
-        endpoint,
-        on: line_end(step.on),
+        length0,
+        length1,
+        length,
+        on: line_end(say(true, b"0")),
         ..session
     }
 }
@@ -202,12 +177,20 @@ fn next_record(space: &mut [u8]) -> Next
     }
 }
 
-// One record.
-fn turn(session: Session, store0: &mut [u8], store1: &mut [u8], space: &mut [u8]) -> Session
-    requires { ⌜ Valid (session .endpoint) × (session .length0 ≤ length (now store0)) × (session .length1 ≤ length (now store1)) × (65536 ≤ length (now space)) ⌝ }
-    ensures { λ r. ⌜ Valid (r .endpoint) × (r .length0 ≤ length (now (store0 .exit))) × (r .length1 ≤ length (now (store1 .exit))) ⌝ }
+// Reads one record, does what it says, and writes its line.
+fn turn(
+    session: Session,
+    store0: &mut [u8],
+    store1: &mut [u8],
+    store: &mut [u8],
+    space: &mut [u8],
+) -> Session
+    requires { ⌜ Kept session ⌝ }
+    requires { ⌜ (length (now store0) ≡ 4300) × (length (now store1) ≡ 4300) × (length (now store) ≡ 4300) × (65536 ≤ length (now space)) ⌝ }
+    ensures { λ r. ⌜ Kept r ⌝ }
 {
     let next = next_record(space);
+    let tag = next.tag;
     let size = next.size;
     if !next.on {
         return Session {
@@ -215,24 +198,56 @@ fn turn(session: Session, store0: &mut [u8], store1: &mut [u8], space: &mut [u8]
             ..session
         };
     }
-    recorded(session, store0, store1, next.tag, &space[..size])
+    let body = &space[..size];
+    if tag == STORES {
+        return lent_anew(session, half(body, 0), half(body, 2), session.length);
+    }
+    if tag == REQUESTER_STORE {
+        return lent_anew(session, session.length0, session.length1, half(body, 0));
+    }
+    if is_requesters(tag) {
+        let n = session.length;
+        let step = requester_called(session.requester, &mut store[..n], tag, body);
+        let requester = step.requester;
+        return Session {
+            requester,
+            on: line_end(step.on),
+            ..session
+        };
+    }
+    let n0 = session.length0;
+    let n1 = session.length1;
+    let lent0 = &mut store0[..n0];
+    let lent1 = &mut store1[..n1];
+    let step = called(session.endpoint, lent0, lent1, tag, body);
+    let endpoint = step.endpoint;
+    Session {
+        endpoint,
+        on: line_end(step.on),
+        ..session
+    }
 }
 
 fn main() {
     let mut store0 = [0u8; MEMORY];
     let mut store1 = [0u8; MEMORY];
+    let mut store = [0u8; MEMORY];
     let mut space = io::large_buffer();
     let started = endpoint::setup(EID);
     let endpoint = started.endpoint;
+    let begun = requester::setup(EID);
+    let requester = begun.requester;
     let mut session = Session {
         endpoint,
+        requester,
         length0: STORE_SIZE,
         length1: STORE_SIZE,
+        length: STORE_SIZE,
         on: true,
     };
     let mut turns = u64::MAX;
     while turns > 0 && session.on {
-        session = turn(session, &mut store0, &mut store1, &mut space);
+        session = turn(session, &mut store0, &mut store1, &mut store, &mut space);
         turns -= 1;
     }
 }

@@ -1,17 +1,27 @@
-// What a record does: the call that it names, and the words of its line.
+// What a record of the endpoint does: the call that it names, and the words of its line.
 ghost use mathlib.Core.Path.{_≡_};
-ghost use mathlib.Core.Bool.{true};
 ghost use Prim.Native.Nat.{ℕ, _≤_, _<_};
 ghost use lib.ListN.{length};
 ghost use Rattle.machine.specs.Valid.{Valid};
 ghost use Rattle.machine.specs.declared.PollAnswer.{PollAnswer};
 ghost use Rattle.mi_calls.specs.Sizes.{leastSize};
-use crate::line::byte;
-use crate::line::field;
+use crate::buffer::blank_buffer;
+use crate::buffer::blank_words;
+use crate::buffer::written_words;
+use crate::line::answered;
+use crate::line::answered_with;
 use crate::line::hex;
 use crate::line::number;
 use crate::line::say;
 use crate::look::look;
+use crate::tags::COMPLETE;
+use crate::tags::LOOK;
+use crate::tags::POLL;
+use crate::tags::READ;
+use crate::tags::RECEIVE;
+use crate::tags::SETUP;
+use crate::tags::TAKE;
+use crate::tags::TIMEOUT;
 use crate::words::half;
 use crate::words::word;
 use machine::Done;
@@ -20,76 +30,6 @@ use machine::PollAnswer;
 use machine::TakeAnswer;
 use machine::Ticket;
 use machine::answers;
-
-// Tags of records.
-pub const SETUP: u8 = 16;
-
-pub const STORES: u8 = 17;
-
-pub const RECEIVE: u8 = 18;
-
-pub const TAKE: u8 = 19;
-
-pub const READ: u8 = 20;
-
-pub const COMPLETE: u8 = 21;
-
-pub const POLL: u8 = 22;
-
-pub const TIMEOUT: u8 = 23;
-
-pub const RESET: u8 = 24;
-
-pub const LOOK: u8 = 25;
-
-// The longest record's bytes, without tag and length.
-pub const LONGEST: usize = 8192;
-
-// The longest buffer that a poll can ask for, and what each of its bytes is before the poll.
-const LONGEST_BUFFER: usize = 65535;
-
-const BLANK: u8 = 0xA5;
-
-// The fewest bytes that a record of this tag has.
-fn least_size(tag: u8) -> usize
-    ensures { λ r. ⌜ r ≡ leastSize tag ⌝ }
-{
-    match tag {
-        SETUP => 1,
-        STORES => 4,
-        RECEIVE => 0,
-        TAKE => 4,
-        READ => 4,
-        COMPLETE => 8,
-        POLL => 2,
-        TIMEOUT => 4,
-        RESET => 0,
-        LOOK => 0,
-        _ => 1,
-    }
-}
-
-// The most; for an unknown tag fewer than the fewest.
-fn most_size(tag: u8) -> usize {
-    match tag {
-        SETUP => 1,
-        STORES => 4,
-        RECEIVE => LONGEST,
-        TAKE => 4,
-        READ => 4,
-        COMPLETE => LONGEST,
-        POLL => 2,
-        TIMEOUT => 4,
-        _ => 0,
-    }
-}
-
-// A record with this tag may have this length.
-pub(crate) fn is_record(tag: u8, n: usize) -> bool
-    ensures { λ r. ⌜ (r ≡ true → leastSize tag ≤ n) ⌝ }
-{
-    least_size(tag) <= n && n <= most_size(tag)
-}
 
 // What a call leaves, and whether its words were written whole.
 pub struct Step {
@@ -100,12 +40,8 @@ pub struct Step {
 // `0 TICKET`, or the refusal's number.
 fn take_words(answer: TakeAnswer) -> bool {
     match answer {
-        TakeAnswer::Refused(n) => number(true, byte(n)),
-        TakeAnswer::Given(ticket) => field(
-            number(true, byte(answers::DONE)),
-            b" ",
-            ticket.0 as u64,
-        ),
+        TakeAnswer::Refused(n) => answered(n),
+        TakeAnswer::Given(ticket) => answered_with(answers::DONE, ticket.0 as u64),
     }
 }
 
@@ -130,40 +66,14 @@ fn read_words<'a>(endpoint: Endpoint, store0: &'a [u8], store1: &'a [u8], slot: 
     hex(say(number(true, part.len() as u64), b" "), part)
 }
 
-// Whether the bytes from a place on are as they were before the poll.
-fn blank_words(on: bool, buffer: &[u8], from: usize) -> bool {
-    let mut i = from;
-    while i < buffer.len() {
-        if buffer[i] != BLANK {
-            return say(on, b" touched");
-        }
-        i += 1;
-    }
-    say(on, b" stays")
-}
-
-// `1 LENGTH PACKET`.
-fn packet_words(packet: &[u8]) -> bool {
-    let on = number(true, byte(answers::PACKET_SENT));
-    let on = field(on, b" ", packet.len() as u64);
-    hex(say(on, b" "), packet)
-}
-
 fn poll_words(buffer: &[u8], answer: PollAnswer) -> bool
     requires { ⌜ ((n : ℕ) → answer ≡ PollAnswer.Packet n → n ≤ length (now buffer)) ⌝ }
 {
     match answer {
-        PollAnswer::Refused(n) => blank_words(number(true, byte(n)), buffer, 0),
-        PollAnswer::Nothing => blank_words(number(true, byte(answers::NOTHING_TO_SEND)), buffer, 0),
-        PollAnswer::Packet(n) => blank_words(packet_words(&buffer[..n]), buffer, n),
+        PollAnswer::Refused(n) => blank_words(answered(n), buffer, 0),
+        PollAnswer::Nothing => blank_words(answered(answers::NOTHING_TO_SEND), buffer, 0),
+        PollAnswer::Packet(n) => written_words(answers::PACKET_SENT, buffer, n),
     }
-}
-
-// A buffer for every poll, blank. The contract gives only its length, which lending a part of it needs.
-fn blank_buffer() -> [u8; LONGEST_BUFFER]
-    ensures { λ r. ⌜ 65535 ≡ length r ⌝ }
-{
-    [BLANK; LONGEST_BUFFER]
 }
 
 // A poll with a buffer of n bytes.
@@ -244,6 +154,6 @@ pub(crate) fn called(
     let endpoint = done.endpoint;
     Step {
         endpoint,
-        on: number(true, byte(done.answer)),
+        on: answered(done.answer),
     }
 }

@@ -17,9 +17,9 @@ use Rattle.opening.specs.declared.First.the-variants.{Refused, Control, 
 use Rattle.opening.specs.declared.Joined.{Joined}
 use Rattle.opening.specs.declared.Joined.the-variants.{More, Wrong, Whole}
 
--- the first byte is not 84h, or ROR is not the one that is awaited
-abbrev pub not-a-request : ℕ
-not-a-request = 15
+-- the first byte is not 84h, or ROR is the other one: a request has ROR 0, a response ROR 1
+abbrev pub wrong-message : ℕ
+wrong-message = 15
 
 abbrev pub message-too-short : ℕ
 message-too-short = 17
@@ -34,10 +34,10 @@ check-wrong = 19
 -- the message of a first packet
 unfoldable pub opened : ℕ → Bool → Header → List ℕ → First
 opened unit ror h m =
-    if not (eqb (byteAt m 0) message-type) then Refused not-a-request
+    if not (eqb (byteAt m 0) message-type) then Refused wrong-message
     else if isCut unit h (length m) then Refused not-full
     else if h .eom && ltb (length m) smallest then Refused message-too-short
-    else if not (same (messageHeader m .ror) ror) then Refused not-a-request
+    else if not (same (messageHeader m .ror) ror) then Refused wrong-message
     else if not (eqb (messageHeader m .nmimt) control) then Command
     else if not (h .eom) || not (eqb (length m) control-size) then Refused not-twelve
     else if not (checkRight m) then Refused check-wrong

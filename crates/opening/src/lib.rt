@@ -9,7 +9,7 @@ use nvme_mi::CONTROL_SIZE;
 use nvme_mi::MESSAGE_TYPE;
 use nvme_mi::SMALLEST;
 
-// A message's first packet: refused by number, a control message, or a command's.
+// A message's first packet: refused by number, a control message, or the first of another, which is a command or its response.
 pub enum First {
     Refused(u8),
     Control,
@@ -23,8 +23,8 @@ pub enum Joined {
     Whole,
 }
 
-// Answers to a message by its bytes. The first: byte 0 is not 84h, or ROR is another.
-pub const NOT_A_REQUEST: u8 = 15;
+// Answers to a message by its bytes. The first: byte 0 is not 84h, or ROR is the other one.
+pub const WRONG_MESSAGE: u8 = 15;
 
 pub const MESSAGE_TOO_SHORT: u8 = 17;
 
@@ -39,7 +39,7 @@ pub fn opened(unit: usize, ror: bool, header: Header, message: &[u8]) -> First
     ensures { λ r. ⌜ r ≡ Opening·opened unit ror header (now (message .entry)) ⌝ }
 {
     if message[0] != MESSAGE_TYPE {
-        return First::Refused(NOT_A_REQUEST);
+        return First::Refused(WRONG_MESSAGE);
     }
     if mctp::is_cut(unit, header, message.len()) {
         return First::Refused(mctp::NOT_FULL);
@@ -49,7 +49,7 @@ pub fn opened(unit: usize, ror: bool, header: Header, message: &[u8]) -> First
     }
     let message_header = nvme_mi::read_message_header(message);
     if message_header.ror != ror {
-        return First::Refused(NOT_A_REQUEST);
+        return First::Refused(WRONG_MESSAGE);
     }
     if message_header.nmimt != CONTROL {
         return First::Command;

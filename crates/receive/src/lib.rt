@@ -12,7 +12,6 @@ use machine::Endpoint;
 use machine::answers;
 use machine::sizes::UNIT;
 use mctp::Header;
-use mctp::NO_REFUSAL;
 use mctp::Read;
 use opening::First;
 use receive_assembly::end_assembly;
@@ -52,16 +51,6 @@ fn first(
     }
 }
 
-// The number of a header that is refused.
-fn refusal_of(read: Read) -> u8
-    ensures { λ r. ⌜ ((n : ℕ) → read ≡ Read.Refused n → r ≡ n) ⌝ }
-{
-    match read {
-        Read::Refused(n) => n,
-        Read::Packet(_) => NO_REFUSAL,
-    }
-}
-
 // Receives one packet. 40 a store of another length; 10 to 23 a refusal; 0 more to come; 1 command complete; 2 control done.
 pub fn receive(endpoint: Endpoint, store0: &mut [u8], store1: &mut [u8], packet: &[u8]) -> Done
     requires { ⌜ Valid endpoint ⌝ }
@@ -73,7 +62,7 @@ pub fn receive(endpoint: Endpoint, store0: &mut [u8], store1: &mut [u8], packet:
     }
     let read = mctp::read_header(endpoint.eid, UNIT, true, packet);
     let Read::Packet(header) = read else {
-        return refused(endpoint, refusal_of(read));
+        return refused(endpoint, mctp::refusal_of(read));
     };
     let payload = &packet[mctp::HEADER_SIZE..];
     if header.som {

@@ -1,4 +1,3 @@
-pub mod Kept
 pub mod Other
 pub mod Placed
 pub mod Rows

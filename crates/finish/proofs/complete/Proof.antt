@@ -20,7 +20,7 @@ use Rattle.machine.specs.declared.Phase.{Phase}
 use Rattle.machine.specs.declared.Taking.{Taking}
 use Rattle.machine.specs.declared.Taking.the-variants.{Untaken, Taken}
 use Rattle.machine.proofs.Keeps.{completed-valid, sizes}
-use Rattle.slots.proofs.Kept.{kept}
+use Rattle.lent.proofs.Kept.{kept}
 use Rattle.slots.proofs.Other.{not-process}
 use Rattle.slots.proofs.Stores.{Stays}
 use Rattle.finish.proofs.complete.Statement.{statement}

@@ -11,7 +11,7 @@ use Rattle.machine.specs.Finish.{timedOut}
 use Rattle.machine.specs.Valid.{Valid}
 use Rattle.machine.specs.declared.Done.{Done}
 use Rattle.machine.proofs.Keeps.{timeout-valid}
-use Rattle.slots.proofs.Kept.{kept}
+use Rattle.lent.proofs.Kept.{kept}
 use Rattle.finish.proofs.timeout.Statement.{statement}
 use Rattle.finish.proofs.timeout.Tie as tie
 

@@ -8,19 +8,16 @@ use mathlib.Core.List.{List, _++_}
 use native.Mathlib.Omega.{arith}
 use lib.Dec.{eqb}
 use lib.ListN.{length, take, drop, take-append-drop}
-use lib.Seq.{take-append-seam, drop-append-add, drop-drop}
+use lib.Seq.{take-append-seam}
 use borrow.Author.Needs.{needs}
 use Rattle.lent.specs.Bytes.{put}
+use Rattle.lent.proofs.Stores.{put-behind}
 use Rattle.mctp.specs.Header.{headerBytes}
 use Rattle.mctp.specs.Cut.{packets, payload, packet}
 use Rattle.mctp.specs.declared.Route.{Route}
 use Rattle.mctp.proofs.Laws.{payload-length, last-left}
 use Rattle.mctp.proofs.write_packet.Statement.{statement}
 use Rattle.mctp.proofs.write_packet.Tie as tie
-
--- bytes put behind a list that stands at the front of a store
-put-behind : (h out s : List ℕ) → put (h ++ drop (length h) out) (length h) s ≡ h ++ s ++ drop (length h + length s) out
-put-behind h out s = rw (take-append-seam, drop-append-add, drop-drop)
 
 -- a part that is as long as the payload is the payload
 part : (at n unit : ℕ) (l : List ℕ) → n ≡ length (take unit l) → take (at + n - at) l ≡ take unit l

@@ -15,7 +15,7 @@ use Rattle.machine.specs.Numbers.{pollNumber}
 use Rattle.machine.specs.Valid.{Valid}
 use Rattle.machine.proofs.Keeps.{polled-valid, sizes}
 use Rattle.machine.proofs.Numbers.{poll-numbers}
-use Rattle.slots.proofs.Kept.{kept}
+use Rattle.lent.proofs.Kept.{kept}
 use Rattle.poll.proofs.poll.Statement.{statement}
 use Rattle.poll.proofs.poll.Tie as tie
 

@@ -9,7 +9,7 @@ use Rattle.machine.proofs.Receiving.{csi-most}
 use Rattle.machine.specs.Receive.{first}
 use Rattle.opening.specs.Opening.{opened}
 use Rattle.opening.specs.declared.First.the-variants.{Control, Command}
-use Rattle.receive.proofs.Opens.{sized}
+use Rattle.opening.proofs.Opens.{sized}
 use Rattle.receive.proofs.first.Statement.{statement}
 use Rattle.receive.proofs.first.Tie as tie
 

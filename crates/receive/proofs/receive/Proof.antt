@@ -4,21 +4,22 @@
 use Prim.Native.Nat.{ℕ, _≤_}
 use mathlib.Core.Bool.{true, false}
 use mathlib.Core.List.{List}
-use mathlib.Core.Path.{_≡_, sym, _∙_}
+use mathlib.Core.Path.{_≡_, sym, _∙_, ap}
 use native.Mathlib.Omega.{arith}
 use lib.ListN.{length, length-take, length-drop}
 use borrow.Author.Needs.{needs}
-use Rattle.mctp.specs.Header.{readHeader, payloadOf}
+use Rattle.mctp.specs.Header.{readHeader, payloadOf, readSays}
 use Rattle.mctp.specs.declared.Header.{Header}
+use Rattle.mctp.specs.declared.Read.{Read}
 use Rattle.mctp.specs.declared.Read.the-variants.{Packet}
 use Rattle.machine.proofs.Keeps.{received-valid, sizes}
 use Rattle.machine.specs.Receive.{endAssembly, first, later, received}
 use Rattle.machine.specs.State.{World, world, withEndpoint}
 use Rattle.machine.specs.declared.Endpoint.{Endpoint}
 use Rattle.machine.specs.Wire.{unit, store-size, inward, wrongStores}
-use Rattle.slots.proofs.Kept.{kept}
+use Rattle.lent.proofs.Kept.{kept}
 use Rattle.lent.proofs.Stores.{rest}
-use Rattle.machine.proofs.Receiving.{packet-sized}
+use Rattle.mctp.proofs.Laws.{packet-sized}
 use Rattle.slots.proofs.Stores.{Stays}
 use Rattle.receive.proofs.receive.Statement.{statement}
 use Rattle.receive.proofs.receive.Tie as tie
@@ -55,7 +56,7 @@ module _ (r : tie.After-read) where
   is-packet = sym (r .before .before .read-header .ensures .0) ∙ r .read .given .1
 
   sized : (5 ≤ length (given .args .packet .now)) × (length (given .args .packet .now) ≤ 68)
-  sized = packet-sized (given .args .endpoint .eid) (given .args .packet .now) is-packet
+  sized = packet-sized (given .args .endpoint .eid) unit inward (given .args .packet .now) is-packet
 
   stores : (length (given .args .store0 .now) ≡ store-size) × (length (given .args .store1 .now) ≡ store-size)
   stores = sizes (lent given) (passed (stores-right r))
@@ -85,7 +86,7 @@ returns-2 c =
     let d = header .before in
     kept Stays (still (start (d .before)))
     (c .refused .ensures _ _
-    ∙ rw (c .before .refusal-of .ensures _ (told .enum-told .given .1), passed d, sym (header .read-header .ensures .0) ∙ told .enum-told .given .1))
+    ∙ rw (c .before .refusal-of .ensures ∙ ap (λ (x : Read). readSays x .0) (told .enum-told .given .1), passed d, sym (header .read-header .ensures .0) ∙ told .enum-told .given .1))
 
 sub-payload : tie.Need-sub-payload
 sub-payload c = omega (arith, sized (c .before))

@@ -15,7 +15,7 @@ use Rattle.machine.specs.declared.Endpoint.{Endpoint}
 use Rattle.machine.specs.declared.Holder.the-variants.{At}
 use Rattle.machine.proofs.Slots.{facts-at, holder-at}
 use Rattle.machine.specs.Wire.{store-size}
-use Rattle.machine.proofs.Receiving.{joins}
+use Rattle.mctp.proofs.Laws.{joins}
 use Rattle.receive_command.proofs.later.Statement.{statement}
 use Rattle.receive_command.proofs.later.Tie as tie
 

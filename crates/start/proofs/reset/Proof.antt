@@ -5,7 +5,7 @@ use Rattle.machine.specs.Finish.{wasReset}
 use Rattle.machine.specs.Valid.{Valid}
 use Rattle.machine.specs.declared.Done.{Done}
 use Rattle.machine.proofs.Keeps.{reset-valid}
-use Rattle.slots.proofs.Kept.{kept}
+use Rattle.lent.proofs.Kept.{kept}
 use Rattle.start.proofs.reset.Statement.{statement}
 use Rattle.start.proofs.reset.Tie as tie
 

@@ -10,7 +10,7 @@ use Rattle.machine.specs.Finish.{wasSetUp}
 use Rattle.machine.specs.Valid.{Valid}
 use Rattle.machine.specs.declared.Done.{Done}
 use Rattle.machine.proofs.Keeps.{setup-valid}
-use Rattle.slots.proofs.Kept.{kept}
+use Rattle.lent.proofs.Kept.{kept}
 use Rattle.start.proofs.setup.Statement.{statement}
 use Rattle.start.proofs.setup.Tie as tie
 

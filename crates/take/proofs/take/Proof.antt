@@ -13,7 +13,7 @@ use Rattle.machine.specs.declared.TakeDone.{TakeDone}
 use Rattle.machine.specs.declared.TakeAnswer.the-variants.{Refused}
 use Rattle.machine.proofs.Keeps.{taken-valid}
 use Rattle.machine.proofs.Numbers.{take-numbers}
-use Rattle.slots.proofs.Kept.{kept}
+use Rattle.lent.proofs.Kept.{kept}
 use Rattle.slots.proofs.Other.{not-process}
 use Rattle.take.proofs.take.Statement.{statement}
 use Rattle.take.proofs.take.Tie as tie

@@ -2,7 +2,6 @@
 -- Assumes nothing.
 use Prim.Native.Nat.{ℕ, _≤_}
 use mathlib.Core.Path.{_≡_}
-use native.Mathlib.Omega.{arith}
 use lib.ListN.{length}
 use Rattle.mi_calls.specs.Sizes.{leastSize}
 use Rattle.mi_calls.proofs.Sizes.{at-least}
@@ -28,6 +27,7 @@ buffer-asked c κs = let poll = c .before .before in enough (poll .before .befor
 pub called-spec : {M : Type 1} → statement M
 called-spec =
     tie.close
-    (tie.spec (λ c κs. search needs) (λ c. search needs) (λ c. search needs) (λ c. search needs) slot-read (λ c κs. search needs) (λ c. search needs) (λ c. search needs) (λ c. search needs)
-    slot-taken (λ c κs. search needs) (λ c. search needs) buffer-asked (λ c κs. search needs) (λ c. search needs) (λ c. search needs) (λ c. search needs) (λ c κs. search needs) (λ c κs. search needs)
-    (λ c κs. search needs) (λ c. search needs) (λ c. search needs) (λ c. search needs))
+    (tie.spec (λ c κs. search needs) (λ c. search needs) (λ c. search needs) (λ c. search needs) slot-read (λ c κs. search needs) (λ c. search needs)
+    (λ c. search needs) (λ c. search needs) slot-taken (λ c κs. search needs) (λ c. search needs) buffer-asked (λ c κs. search needs)
+    (λ c. search needs) (λ c. search needs) (λ c. search needs) (λ c κs. search needs) (λ c κs. search needs) (λ c. search needs) (λ c. search needs)
+    (λ c. search needs))

@@ -1,0 +1,5 @@
+pub mod Keeps
+pub mod Grounds
+pub mod Calls
+pub mod Arrival
+pub mod Fits

@@ -1,0 +1,6 @@
+pub mod Endpoint
+pub mod Command
+pub mod Formed
+pub mod Response
+pub mod Primitive
+pub mod Answer

@@ -1,0 +1,4 @@
+pub mod Command
+pub mod Response
+pub mod Primitive
+pub mod Answer

@@ -1,0 +1,224 @@
+"""Chooses the requester's records of a random script: exchanges between both ends, mostly whole, and calls
+with each argument right or wrong on its own."""
+import call_records
+import records
+from call_records import await_from, cut_message, gather, primitive, requester_setup, requester_store, room
+from exchanges import OPCODES, packets_in, written_by
+from generate_ends import ENDPOINT, REQUESTER, EndsGenerator
+from reached_requester import BUFFERS, EXACT, LENT, SIZES, SLOTS, TAGS
+from second import calls, log
+from second.calls import MEMORY
+from second.endpoint import STORE
+from second.wire import ABORT, ADMIN, MI, PCIE, RESUME, packet_fields
+
+USUAL_EID = 9                   # of the requester; most commands of `generate` come from there too
+KINDS = (MI, MI, ADMIN, PCIE, 3)
+COMMANDS = (8, 19, 20, 64, 65, 100, 128)
+BODIES = (4, 56, 57, 92, 120)
+WRONG_TAGS = [tag for tag, answer in TAGS.items() if answer]
+
+def key_of(packet):
+    fields = packet_fields(packet[3:])
+    return fields.source, fields.tag
+
+class RequesterGenerator(EndsGenerator):
+    """Chooses records of the requester, and of the endpoint in an exchange."""
+
+    def __init__(self, seed, count):
+        super().__init__(seed, count)
+        self.outgoing = []      # the packets that the requester wrote last
+        self.coming = []        # the packets that the endpoint sent to the requester's EID, not yet gathered
+
+    def write(self, *found):
+        for record in found:
+            super().write(record)
+            self.keep_written(self.log[-1][0], self.run.lines[-1])
+
+    def keep_written(self, tag, line):
+        if tag == calls.POLL and line.startswith("1 "):
+            packet = written_by(line)
+            if packet_fields(packet).destination == self.requester.eid:
+                self.coming = [*self.coming[-65:], records.record(log.PACKET, packet)]
+        elif tag in (calls.REQUESTER_CUT, calls.REQUESTER_PRIMITIVE) and line.startswith("0 "):
+            self.outgoing = [records.record(log.PACKET, packet) for packet in packets_in(line)]
+
+    # Exchanges
+
+    def exchange(self):
+        """A command, from its cutting to its response; now and then of 66 packets both ways."""
+        slot, tag, eid = self.random.randrange(2), self.random.randrange(8), self.endpoint.eid
+        long = self.chance(14)
+        self.clear(slot)
+        self.write(await_from(eid, tag), cut_message(self.command(slot, long), destination=eid, tag=tag))
+        self.travel(ENDPOINT, self.outgoing)
+        if self.endpoint.state(slot) == "Process untaken":
+            body = self.random.randbytes(STORE - 8 if long else self.random.choice(BODIES))
+            self.write(call_records.take(slot), call_records.complete(self.endpoint.counts[slot], body, slot))
+        self.fetch(tag, lambda: self.endpoint.state(slot) == "Transmit")
+
+    def command(self, slot, long):
+        kind, size = (MI, STORE) if long else (self.random.choice(KINDS), self.random.choice(COMMANDS))
+        found = records.command(size, slot, kind, fill=self.fill(kind), meb=self.chance(12))
+        return records.damaged(found) if self.chance(20) else found
+
+    def clear(self, slot):
+        """Makes the slot Idle, and lets a held endpoint go on."""
+        for opcode, wanted in ((ABORT, self.endpoint.state(slot) != "Idle"), (RESUME, self.endpoint.paused)):
+            if wanted:
+                self.write(records.packet(records.control(opcode, slot), source=77, tag=0))
+
+    def ask(self):
+        """A primitive, from its building to its reply."""
+        slot, tag, eid = self.random.randrange(2), self.random.randrange(8), self.endpoint.eid
+        cpsp = self.random.choice((0, 1, self.random.randrange(1 << 16)))
+        self.write(await_from(eid, tag),
+                   primitive(self.opcode(), slot, room(12), eid, tag, self.random.randrange(256), cpsp))
+        self.travel(ENDPOINT, self.outgoing)
+        self.fetch(tag, lambda: self.endpoint.reply)
+
+    def opcode(self):
+        return self.random.choice((*OPCODES, self.random.randrange(256)))
+
+    def fetch(self, tag, more):
+        """Polls while there is more to come, and gathers what came under the tag."""
+        self.coming = []
+        for _ in range(140):
+            if not more():
+                break
+            self.write(records.POLL)
+        self.travel(REQUESTER, [packet for packet in self.coming if key_of(packet)[1] == tag])
+
+    def travel(self, end, packets):
+        """Gives an end packets: mostly in order and each once, sometimes with other calls between."""
+        if packets and self.chance(6):
+            packets = self.disordered(packets)
+        between = self.chance(4)
+        for packet in packets:
+            self.write(end.put(packet))
+            if between and self.chance(1 + len(packets) // 4):
+                self.random.choice((self.other, self.any_requester_call, self.any_cut, self.other_packet))()
+
+    def disordered(self, packets):
+        """The packets with one damaged, left out, repeated or late."""
+        at = self.random.randrange(len(packets))
+        one, rest = packets[at], packets[at + 1:]
+        return packets[:at] + self.random.choice(([self.spoiled(one), *rest], rest, [one, one, *rest],
+                                                  [*rest[:1], one, *rest[1:]]))
+
+    def collect(self):
+        """Gathers what the endpoint has sent, whoever asked; the first is mostly awaited."""
+        found, self.coming = self.coming, []
+        if found and not self.chance(6):
+            self.write(await_from(*key_of(found[0])))
+        self.travel(REQUESTER, found)
+
+    # Calls with each argument right or wrong on its own
+
+    def any_await(self):
+        source, tag = self.requester.awaited or (self.endpoint.eid, self.random.randrange(8))
+        self.write(await_from(self.one_of(source, 0, 255, source ^ 1),
+                              self.one_of(tag, 0, 7, tag ^ 1, tag | 8, *WRONG_TAGS)))
+
+    def destination_and_tag(self):
+        return (self.one_of(self.endpoint.eid, 0, 255, self.random.randrange(256)),
+                self.one_of(self.random.randrange(8), 0, 7, *WRONG_TAGS, *WRONG_TAGS))
+
+    def any_cut(self):
+        size = self.one_of(self.random.choice(COMMANDS), *SIZES)
+        length = self.one_of(room(size), 0, max(room(size) - 1, 0), room(size) + 1, 65535)
+        self.write(cut_message(self.random.randbytes(size), length, *self.destination_and_tag()))
+
+    def bounded_cut(self):
+        """A buffer that is one byte too short, just right or one byte too long."""
+        size = self.random.choice(EXACT)
+        self.write(cut_message(self.random.randbytes(size), room(size) + self.random.choice((-1, 0, 1))))
+
+    def any_primitive(self):
+        slot, length = self.one_of(self.random.randrange(2), *SLOTS), self.one_of(room(12), *BUFFERS)
+        self.write(primitive(self.opcode(), slot, length, *self.destination_and_tag(),
+                             cpsp=self.random.randrange(1 << 16)))
+
+    def any_gather(self):
+        """A first packet, or a later one of an assembly if there is one."""
+        if self.chance(2):
+            if self.requester.awaited is None and self.chance(2):
+                self.any_await()
+            self.first_packet(REQUESTER, *self.key_to_gather())
+            return
+        if self.requester.assembly is None and not self.chance(4):
+            self.begin_response()
+        assembly = self.requester.assembly
+        sequence = assembly.sequence + 1 if assembly else self.random.randrange(4)
+        self.later_packet(REQUESTER, *self.key_to_gather(), sequence)
+
+    def key_to_gather(self):
+        """The source and tag that are awaited, or now and then others."""
+        if self.requester.awaited and not self.chance(4):
+            return self.requester.awaited
+        return self.endpoint.eid, self.random.randrange(8)
+
+    def awaited(self):
+        """The source and tag that are awaited; if there are none, some are from here on."""
+        if self.requester.awaited is None:
+            self.write(await_from(self.endpoint.eid, self.random.randrange(8)))
+        return self.requester.awaited or (0, 0)             # nothing is awaited if the script is full
+
+    def begin_response(self):
+        """Gives the requester the first of three packets of a response that is awaited; the other two."""
+        source, tag = self.awaited()
+        first, *rest = records.packets(records.command(130, ror=1, fill=self.fill(MI)),
+                                       self.random.randrange(4), source, tag, self.requester.eid, to=0)
+        self.write(gather(first))
+        return rest
+
+    def any_requester_call(self):
+        self.random.choices((self.any_gather, self.any_await, self.any_cut, self.bounded_cut,
+                             self.any_primitive), (15, 3, 3, 1, 3))[0]()
+
+    # Longer stretches: what an assembly may meet, a response that is too long, other stores
+
+    def pass_by(self):
+        """An assembly, what may happen in it, the rest of it, and perhaps another response."""
+        rest = self.begin_response()
+        for _ in range(self.random.randrange(1, 3)):
+            self.random.choices((self.other_packet, self.any_gather, self.any_await, self.any_cut,
+                                 self.any_primitive, self.setup, self.reset, self.lend_between),
+                                (4, 1, 1, 1, 1, 1, 1, 1))[0]()
+        self.travel(REQUESTER, rest)
+        if self.requester.awaited and self.chance(2):
+            self.travel(REQUESTER, self.begin_response())
+
+    def other_packet(self):
+        """A packet under the awaited source and tag or under others, mostly with one thing wrong."""
+        source, tag = self.requester.awaited or (0, 0)
+        way = self.random.randrange(3)
+        source, tag = source ^ (way == 0), tag ^ (way == 1)
+        fields = dict(source=source, tag=tag, destination=self.requester.eid, to=0)
+        if self.chance(3):
+            self.first_packet(REQUESTER, source, tag)
+        elif self.chance(8):
+            self.write(gather(records.packet(records.damaged(records.command(ror=1)), **fields)))
+        else:
+            self.write(gather(self.stray_packet(1, **fields)))
+
+    def lend_between(self):
+        self.requester_lend()
+        self.any_gather()
+        self.write(requester_store())
+
+    def too_long_response(self):
+        self.overfill(REQUESTER, 0, *self.awaited(), self.requester_lend)
+
+    def requester_setup(self):
+        self.setup(requester_setup, USUAL_EID)
+
+    def requester_lend(self):
+        self.write(requester_store(self.random.choice((*LENT, *LENT, self.random.randrange(MEMORY + 1)))))
+
+    def requester_step(self):
+        if len(self.requester.store) != STORE and self.chance(5):
+            self.write(requester_store())
+        else:
+            self.random.choices((self.exchange, self.ask, self.collect, self.any_requester_call, self.pass_by,
+                                 self.too_long_response, self.requester_setup, self.requester_lend),
+                                (16, 16, 16, 140, 30, 3, 8, 6))[0]()
