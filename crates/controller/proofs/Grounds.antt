@@ -39,7 +39,7 @@ awaited-is source tag (Awaited k) = refl
 awaited-is source tag (Gathering a) = refl
 
 -- the source and tag, where they are awaited
-key-known : (source tag : ℕ) (a : Awaiting) → isAwaited source tag a ≡ true → keyOf a ≡ source ∷ tag ∷ []
+pub key-known : (source tag : ℕ) (a : Awaiting) → isAwaited source tag a ≡ true → keyOf a ≡ source ∷ tag ∷ []
 key-known source tag Nothing e = false-true e
 key-known source tag (Awaited k) e =
     let b = and-both (eqb (k .source) source) (eqb (k .tag) tag) e in

@@ -3,3 +3,4 @@ pub mod Grounds
 pub mod Calls
 pub mod Arrival
 pub mod Fits
+pub mod Lists

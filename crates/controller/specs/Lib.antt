@@ -6,3 +6,4 @@ pub mod Send
 pub mod Receive
 pub mod Grounds
 pub mod Arrival
+pub mod Lists
