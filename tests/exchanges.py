@@ -8,19 +8,17 @@
 Where a script meets all of that and the message is not gathered, the run ends with an error.
 """
 from call_records import REQUESTER_TAGS
-from reached import PRIMITIVES
-from runs import entry_ground
+from runs import COUNTS, ENTRY_GROUNDS, PRIMITIVES, entry_ground
 from second.calls import (LOOK, POLL, PRIMITIVE, RECEIVE, REQUESTER_CUT, REQUESTER_LOOK,
                           REQUESTER_PRIMITIVE, REQUESTER_RECEIVE)
 from second.endpoint import STORE, Process
-from second.wire import CONTROL, LONGEST_PACKET, is_sealed, message_header, packet_fields
+from second.wire import CONTROL, LONGEST_PACKET, REPLAY, is_sealed, message_header, packet_fields
 
-COUNTS = (1, 2, 66)                 # packets of a message that is a goal
-OPCODES = (*PRIMITIVES, 4, 255)
-ENTRY_GROUNDS = ("NMIMT", "MEB", "size")
+OPCODES = (*PRIMITIVES, 5, 255)
 # Records that are no other call between: a packet that is not of the message is noted where it is received.
 QUIET = (RECEIVE, REQUESTER_RECEIVE, LOOK, REQUESTER_LOOK)
 BETWEEN = "with other calls between"
+FIRST, ONCE_MORE = "for the first time", "once more"
 
 def primitive_name(opcode):
     return PRIMITIVES.get(opcode, f"opcode {opcode}")
@@ -33,6 +31,10 @@ def exchange_goals():
         yield from (f"slot {slot}: an exchange of {count} packets both ways" for count in COUNTS)
         yield from (f"slot {slot}: an error of entry gathered, {ground}" for ground in ENTRY_GROUNDS)
         yield from (f"slot {slot}: the reply to {primitive_name(opcode)} gathered" for opcode in OPCODES)
+        yield from (f"slot {slot}: a replay of {count} packets gathered" for count in COUNTS)
+        yield from (f"slot {slot}: a response gathered {when}, by its replay" for when in (FIRST, ONCE_MORE))
+        yield from (f"slot {slot}: an exchange with a replay, its response gathered {when}"
+                    for when in (FIRST, ONCE_MORE))
 
 def written_by(line):
     """The bytes that a line shows between its numbers and its last word."""
@@ -46,8 +48,9 @@ def packets_in(line):
 class Trip:
     """A message on its way: its packets, and how many of them the other end was given."""
 
-    def __init__(self, packets=()):
+    def __init__(self, packets=(), replayed=False):
         self.packets, self.given = list(packets), 0
+        self.replayed = replayed    # whether a Replay let it be sent
         self.alone = False          # whether that end was given nothing else since the first
         self.promised = False       # whether it has to gather the message then
 
@@ -81,6 +84,8 @@ class Exchanges:
         self.built = self.asked = self.replied = None   # a primitive: built, its reply waiting, handed out
         self.entered = [None, None]                 # for each slot, the ticket and packets of a command cut
         self.tickets = [None, None]                 # for each slot, the ticket of what it began to send last
+        self.came = [None, None]                    # for each slot, ticket and bytes of what came last
+        self.told = [None, None]                    # for each slot, the ticket at a Replay's reply of CPSR 1
         self.seen = {REQUESTER_CUT: self.was_cut, REQUESTER_PRIMITIVE: self.was_built,
                      RECEIVE: self.received, POLL: self.polled, REQUESTER_RECEIVE: self.gathered}
 
@@ -162,7 +167,7 @@ class Exchanges:
             self.reply, self.replied, self.asked = Trip([packet]), self.asked, None
         else:
             self.sending = header.csi
-            self.responses[header.csi] = Trip([packet])
+            self.responses[header.csi] = Trip([packet], self.run.replays.slots[header.csi].times > 0)
             self.tickets[header.csi] = self.run.endpoint.counts[header.csi]
 
     # The requester is given packets
@@ -172,9 +177,15 @@ class Exchanges:
             if trip.give(packet) and self.has_come(trip, "1", line):
                 self.note_gathered(slot, "a response", trip)
                 self.exchanged(slot, trip)
+                self.came[slot] = self.tickets[slot], trip.message
         if self.reply.give(packet) and self.has_come(self.reply, "2", line) and self.replied:
-            slot = message_header(packet[4:]).csi
-            self.run.note(f"slot {slot}: the reply to {primitive_name(self.replied[1])} gathered")
+            self.reply_came(packet[4:], self.replied[1])
+
+    def reply_came(self, message, opcode):
+        slot = message_header(message).csi
+        self.run.note(f"slot {slot}: the reply to {primitive_name(opcode)} gathered")
+        if opcode == REPLAY and message[4:8:2] == b"\0\1":          # status 00h, CPSR 1
+            self.told[slot] = self.run.endpoint.counts[slot]
 
     def has_come(self, trip, answer, line):
         """Whether the requester has gathered the message whose last packet it was given."""
@@ -186,8 +197,15 @@ class Exchanges:
 
     def exchanged(self, slot, trip):
         """A response has come; the command that it answers may have been cut by the requester."""
-        if self.entered[slot] is None or self.entered[slot][0] != self.tickets[slot]:
+        ticket = self.tickets[slot]
+        when = ONCE_MORE if self.came[slot] == (ticket, trip.message) else FIRST
+        if trip.replayed:
+            self.run.note(f"slot {slot}: a replay of {len(trip.packets)} packets gathered")
+            self.run.note(f"slot {slot}: a response gathered {when}, by its replay")
+        if self.entered[slot] is None or self.entered[slot][0] != ticket:
             return
         _, count, waited = self.entered[slot]
+        self.run.note(f"slot {slot}: an exchange with a replay, its response gathered {when}",
+                      trip.replayed and self.told[slot] == ticket)
         self.run.note(f"slot {slot}: an exchange of {count} packets both ways", count == len(trip.packets))
         self.run.note(f"slot {slot}: an error of entry gathered, {entry_ground(trip.message)}", not waited)

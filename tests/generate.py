@@ -5,17 +5,18 @@
 
 The same seed and N give the same log. One log in four ends with a faulty record. Records are
 chosen by looking at the second program's endpoint, which runs beside: blind chance would seldom
-finish a message of 66 packets or find a slot in the state that a primitive has to meet. Values
-that a later version of the endpoint gives a meaning (opcode 4, MI opcode 01h, Pause and Resume
-with CSI 1, reserved bits) are rare.
+finish a message of 66 packets or find a slot in the state that a primitive has to meet. What is done
+with a response that a slot holds is chosen by `generate_replay`. Values that a later version of the
+endpoint gives a meaning (MI opcode 01h, Pause and Resume with CSI 1, reserved bits) are rare.
 """
 import argparse
 import random
 
 import records
+from generate_replay import ReplayGenerator
 from reached import SIZES, LogRun
 from records import FULL
-from second.wire import ABORT, ADMIN, GET_STATE, MI, PAUSE, PCIE, RESUME
+from second.wire import ABORT, ADMIN, GET_STATE, MI, PAUSE, PCIE, REPLAY, RESUME
 
 SOURCES = (9, 9, 10, 254)
 LENGTHS = (8, 12, 19, 20, 23, 24, 64, 65, 71, 72, 127, 128, 129, 192, 250)
@@ -29,7 +30,7 @@ class Sender:
     def __init__(self, packets, slot, key):
         self.packets, self.slot, self.key = packets, slot, key
 
-class Generator:
+class Generator(ReplayGenerator):
     """Chooses the records of a log. A kind of its own for other records says what run they are part of,
     and how a log's record is put."""
     new_run = LogRun
@@ -139,9 +140,10 @@ class Generator:
             body[2] ^= 3                                   # source
         return records.record(1, bytes(body))              # else: sent once too often or left out
 
-    def header_fault(self):
+    def header_fault(self, slot=None):
         """A packet that fails before its payload is looked at."""
-        payload = self.random.choice((records.command(), records.control(GET_STATE), b"\x84"))
+        slot = self.random.randrange(2) if slot is None else slot
+        payload = self.random.choice((records.command(slot=slot), records.control(GET_STATE, slot), b"\x84"))
         source, tag = self.key()
         fields = dict(source=source, tag=tag)
         way = self.random.randrange(5)
@@ -159,16 +161,16 @@ class Generator:
         else:
             self.write(records.packet(payload, to=0, **fields))
 
-    def stray(self, source=None, tag=None):
+    def stray(self, source=None, tag=None, slot=None):
         if source is None:
             source, tag = self.key()
-        self.write(self.stray_packet(source=source, tag=tag))
+        self.write(self.stray_packet(source=source, tag=tag, slot=slot))
 
-    def stray_packet(self, ror=0, **fields):
+    def stray_packet(self, ror=0, slot=None, **fields):
         """A packet in the middle of nothing, or a start that is refused for its payload. `ror` is the right
         one."""
-        way = self.random.randrange(7)
-        payload, marks = records.command(64, ror=ror), dict(sequence=self.random.randrange(4))
+        way, slot = self.random.randrange(7), self.random.randrange(2) if slot is None else slot
+        payload, marks = records.command(64, slot, ror=ror), dict(sequence=self.random.randrange(4))
         if way == 0:
             marks.update(som=0, eom=self.chance(2))
         elif way == 1:
@@ -178,23 +180,26 @@ class Generator:
         elif way == 3:
             payload = payload[:self.random.randrange(1, 8)]
         elif way == 4:
-            payload = records.command(20, ror=1 - ror)
+            payload = records.command(20, slot, ror=1 - ror)
         elif way == 5:
-            payload = records.control(GET_STATE, ror=ror) + bytes(self.random.randrange(1, 5))
+            payload = records.control(GET_STATE, slot, ror=ror) + bytes(self.random.randrange(1, 5))
         else:
-            payload = records.damaged(records.control(self.random.randrange(4), ror=ror))
+            payload = records.damaged(records.control(self.random.randrange(5), slot, ror=ror))
         return records.packet(payload, **marks, **fields)
 
     def control(self, opcode=None, slot=None):
         if opcode is None:
-            opcode = self.random.choice((PAUSE, RESUME, RESUME, ABORT, GET_STATE, GET_STATE))
+            opcode = self.random.choice((PAUSE, RESUME, RESUME, ABORT, GET_STATE, GET_STATE, REPLAY))
         if slot is None:
-            slot = self.slot("Process answered", "Transmit", "Receive") & 1
+            busy = "Process answered", "Transmit", "Receive"
+            slot = self.slot(*("Idle",) if opcode == REPLAY and self.chance(2) else busy) & 1
         if opcode in (PAUSE, RESUME) and not self.chance(50):
             slot = 0
         if self.chance(25):
-            opcode = self.random.choice((5, 6, 7, 128, 255)) if not self.chance(50) else 4
+            opcode = self.random.choice((5, 6, 7, 128, 255))
         cpsp = self.random.choice((0, 1)) if opcode == GET_STATE else 0
+        if opcode == REPLAY and self.chance(10):
+            cpsp = self.wrong_cpsp()
         if self.chance(80):
             cpsp |= self.random.randrange(65536)
         message = records.control(opcode, slot, tag=self.random.randrange(256), cpsp=cpsp,
@@ -252,7 +257,7 @@ class Generator:
         slot, again = self.random.randrange(2), dict(source=9, tag=self.random.randrange(2))
         way = self.random.randrange(8)
         if way == 0:
-            opcode = self.random.choice((ABORT, GET_STATE))
+            opcode = self.random.choice((ABORT, GET_STATE, REPLAY))
             self.write(records.packet(records.control(opcode, slot), **again))
         elif way == 1:
             self.write(records.packet(records.command(20, slot), **again))
@@ -295,6 +300,8 @@ class Generator:
     def step(self):
         if self.chance(40):
             self.random.choice((self.race, self.both_answer, self.race))()
+        elif self.chance(60):
+            self.replays()
         elif self.senders and self.chance(2):
             self.advance(self.random.choice(self.senders))
         elif self.chance(4):

@@ -89,15 +89,23 @@ class CallsGenerator(RequesterGenerator):
 
     def any_take(self):
         wanted = "Process answered" if self.chance(4) else "Process untaken"
+        self.make(wanted)
         self.write(call_records.take(self.any_slot(wanted)))
 
     def any_read(self):
+        self.make("Process taken")
         self.write(call_records.read(self.any_slot("Process taken")))
 
     def any_timeout(self):
         if not self.endpoint.gathering:
             self.begin()
         self.write(call_records.timeout(self.any_slot("Receive")))
+
+    def make(self, state):
+        """Mostly brings a slot to the state, unless one is there."""
+        if state not in (self.endpoint.state(0), self.endpoint.state(1)) and self.endpoint.stores_fit():
+            if not self.chance(3):
+                self.bring(self.slot("Idle") & 1, state)
 
     def any_poll(self):
         self.write(call_records.poll(self.one_of(BUFFER, *BUFFERS)))
@@ -130,7 +138,7 @@ class CallsGenerator(RequesterGenerator):
     def any_call(self):
         self.random.choices((self.any_packet, self.any_take, self.any_read, self.any_complete, self.any_poll,
                              self.any_timeout, lambda: super(CallsGenerator, self).write(LOOK)),
-                            (14, 4, 4, 10, 4, 3, 2))[0]()
+                            (19, 4, 4, 10, 4, 3, 2))[0]()
 
     def gives_up(self, sender):
         """A message whose assembly has ended is not sent to its end: a script has more to try."""
@@ -171,6 +179,25 @@ class CallsGenerator(RequesterGenerator):
             body = self.random.randbytes(self.random.choice(BODIES))
             self.write(call_records.complete(ticket, body, slot))
 
+    # What a held response outlives or is lost by, beside what a log can show
+    def leave(self, slot):
+        if not self.chance(3):
+            super().leave(slot)
+        elif self.chance(2):
+            self.write(self.random.choice((call_records.read(slot), call_records.poll(67), LOOK)))
+        else:
+            self.lend()
+            self.write(self.random.choice((
+                call_records.poll(), call_records.complete(self.endpoint.counts[slot], self.body(), slot),
+                self.abort(slot), self.replay_packet(slot, (77, 0)), self.command_packet(slot))))
+            self.write(call_records.stores())
+
+    def forget(self):
+        if self.chance(2):
+            self.setup()
+        else:
+            super().forget()
+
     def abort(self, slot):
         return records.packet(records.control(ABORT, slot), source=77, tag=0)
 
@@ -197,10 +224,12 @@ class CallsGenerator(RequesterGenerator):
             self.lend()
         elif self.chance(100):
             self.setup()
-        elif self.chance(250):
+        elif self.chance(200):
             self.too_long()
         elif self.chance(80):
             self.kept_tickets()
+        elif self.chance(90):
+            self.replays()
         elif self.chance(3):
             self.any_call()
         else:

@@ -5,9 +5,10 @@ import collections
 import call_records
 import records
 from generate import Generator
+from reached_replay import WRONG_CPSP
 from runs import EIDS
 from second.endpoint import STORE
-from second.wire import GET_STATE, MI, PAUSE, PCIE, sealed
+from second.wire import GET_STATE, MI, PAUSE, PCIE, REPLAY, sealed
 
 OUR_EID = 8                     # the destination of the packets that `generate` chooses
 
@@ -41,7 +42,7 @@ class EndsGenerator(Generator):
 
     def first_packet(self, end, source, tag):
         slot = self.random.randrange(2)
-        payload = bytearray(self.random.choice((records.command(20, slot), records.control(GET_STATE, slot),
+        payload = bytearray(self.random.choice((records.command(20, slot), self.any_control(slot),
                                                 records.control(PAUSE, tag=self.random.randrange(256)),
                                                 records.command(self.random.choice((8, 64)), slot, PCIE))))
         if self.chance(6):
@@ -58,13 +59,17 @@ class EndsGenerator(Generator):
             payload = records.damaged(payload)
         self.faulty_header(end, payload, 1, self.one_of(1, 0), self.random.randrange(4), source, tag)
 
+    def any_control(self, slot):
+        return records.control(self.random.choice((GET_STATE, REPLAY, REPLAY, 5, 255)), slot,
+                               cpsp=self.one_of(0, *WRONG_CPSP), ciap=self.chance(4), meb=self.chance(4))
+
     def later_packet(self, end, source, tag, sequence):
         payload = self.random.randbytes(self.one_of(64, 0, 1, 1, 63, 63, 65))
         sequence = self.one_of(sequence, sequence + self.random.randrange(1, 4))
         self.faulty_header(end, payload, 0, self.chance(2), sequence, source, tag)
 
     def faulty_header(self, end, payload, som, eom, sequence, source, tag):
-        version = 1 if not self.chance(6) else self.random.choice((0, 2, 0xF1, 0xF2))
+        version = 1 if not self.chance(6) else self.random.choice((0, 2, 0xF1, 0xF1, 0xF2))
         destination = self.eid_of(end) if not self.chance(6) else self.random.choice((0, 8, 9, 255))
         self.write(end.put(records.packet(payload, som, eom, sequence, source, tag, version, destination,
                                           end.to ^ self.chance(6))))

@@ -9,7 +9,7 @@ from reached_requester import BUFFERS, EXACT, LENT, SIZES, SLOTS, TAGS
 from second import calls, log
 from second.calls import MEMORY
 from second.endpoint import STORE
-from second.wire import ABORT, ADMIN, MI, PCIE, RESUME, packet_fields
+from second.wire import ADMIN, MI, PCIE, REPLAY, packet_fields
 
 USUAL_EID = 9                   # of the requester; most commands of `generate` come from there too
 KINDS = (MI, MI, ADMIN, PCIE, 3)
@@ -45,7 +45,8 @@ class RequesterGenerator(EndsGenerator):
     # Exchanges
 
     def exchange(self):
-        """A command, from its cutting to its response; now and then of 66 packets both ways."""
+        """A command, from its cutting to its response; now and then of 66 packets both ways. The response may
+        be lost, and asked for again."""
         slot, tag, eid = self.random.randrange(2), self.random.randrange(8), self.endpoint.eid
         long = self.chance(14)
         self.clear(slot)
@@ -54,18 +55,25 @@ class RequesterGenerator(EndsGenerator):
         if self.endpoint.state(slot) == "Process untaken":
             body = self.random.randbytes(STORE - 8 if long else self.random.choice(BODIES))
             self.write(call_records.take(slot), call_records.complete(self.endpoint.counts[slot], body, slot))
-        self.fetch(tag, lambda: self.endpoint.state(slot) == "Transmit")
+        self.fetch(lambda: self.sends(slot), *[tag] * self.random.randrange(2))     # or nothing is gathered
+        for _ in range(1 if long else self.random.randrange(3)):
+            if self.endpoint.held(slot):
+                self.ask_again(slot, tag)
+
+    def sends(self, slot):
+        return self.endpoint.state(slot) == "Transmit"
+
+    def ask_again(self, slot, tag):
+        """A Replay under another tag, its reply, and the response once more."""
+        asked, eid = (tag + self.random.randrange(1, 8)) % 8, self.endpoint.eid
+        self.write(await_from(eid, asked), primitive(REPLAY, slot, room(12), eid, asked))
+        self.travel(ENDPOINT, self.outgoing)
+        self.fetch(lambda: self.endpoint.reply or self.sends(slot), asked, tag)
 
     def command(self, slot, long):
         kind, size = (MI, STORE) if long else (self.random.choice(KINDS), self.random.choice(COMMANDS))
         found = records.command(size, slot, kind, fill=self.fill(kind), meb=self.chance(12))
         return records.damaged(found) if self.chance(20) else found
-
-    def clear(self, slot):
-        """Makes the slot Idle, and lets a held endpoint go on."""
-        for opcode, wanted in ((ABORT, self.endpoint.state(slot) != "Idle"), (RESUME, self.endpoint.paused)):
-            if wanted:
-                self.write(records.packet(records.control(opcode, slot), source=77, tag=0))
 
     def ask(self):
         """A primitive, from its building to its reply."""
@@ -74,19 +82,24 @@ class RequesterGenerator(EndsGenerator):
         self.write(await_from(eid, tag),
                    primitive(self.opcode(), slot, room(12), eid, tag, self.random.randrange(256), cpsp))
         self.travel(ENDPOINT, self.outgoing)
-        self.fetch(tag, lambda: self.endpoint.reply)
+        self.fetch(lambda: self.endpoint.reply, tag)
 
     def opcode(self):
         return self.random.choice((*OPCODES, self.random.randrange(256)))
 
-    def fetch(self, tag, more):
-        """Polls while there is more to come, and gathers what came under the tag."""
+    def fetch(self, more, *tags):
+        """Polls while there is more to come, and gathers what came under each of the tags. The first one is
+        awaited; the others are from here on, in their turn."""
         self.coming = []
         for _ in range(140):
             if not more():
                 break
             self.write(records.POLL)
-        self.travel(REQUESTER, [packet for packet in self.coming if key_of(packet)[1] == tag])
+        came = self.coming
+        for tag in tags:
+            if tag != tags[0]:
+                self.write(await_from(self.endpoint.eid, tag))
+            self.travel(REQUESTER, [packet for packet in came if key_of(packet)[1] == tag])
 
     def travel(self, end, packets):
         """Gives an end packets: mostly in order and each once, sometimes with other calls between."""
@@ -221,4 +234,4 @@ class RequesterGenerator(EndsGenerator):
         else:
             self.random.choices((self.exchange, self.ask, self.collect, self.any_requester_call, self.pass_by,
                                  self.too_long_response, self.requester_setup, self.requester_lend),
-                                (16, 16, 16, 140, 30, 3, 8, 6))[0]()
+                                (18, 16, 16, 190, 30, 3, 8, 6))[0]()

@@ -1,14 +1,14 @@
 """Every ground on which a call refuses, not only the one that is answered.
 
-A ground is the number that documents 01 and 02 give it and, where a number has several, a word. The functions
-give those that hold, in the documents' order: the first is the one to be answered. BEHIND says which can hold
-behind a first one.
+A ground is the number that documents 01 and 02 give it and, where a number has several, a word; for the error
+reply to a control primitive it is what was wrong there. The functions give those that hold, in the documents'
+order: the first is the one to be answered. BEHIND says which can hold behind a first one.
 """
 from call_records import room
 from second.endpoint import STORE, Idle, Process, Receive, requester
 from second.requester import GREATEST_TAG, SHORTEST_MESSAGE
-from second.wire import (CONTROL, LONGEST_MESSAGE, LONGEST_PACKET, PAYLOAD, is_sealed, message_header,
-                         packet_fields)
+from second.wire import (CONTROL, LONGEST_MESSAGE, LONGEST_PACKET, PAYLOAD, REPLAY, control_request,
+                         is_sealed, message_header, packet_fields)
 
 STORES = "40"
 LATER = ("21", "22", "16 later", "23", "19 whole")
@@ -75,6 +75,7 @@ class RequesterEnd:
 
 BEHIND = {
     "receive": packet_behind(EndpointEnd.control, EndpointEnd.other),
+    "control": {"MEB": ("CIAP", "opcode", "CPSP"), "CIAP": ("opcode", "CPSP"), "opcode": (), "CPSP": ()},
     "take": {"30": (), "31": ("33",), "33": ()},
     # A command that was answered at once was never taken.
     "complete": {STORES: ("30", "31", "32", "34", "35"), "30": ("35",), "31": ("32", "34", "35"),
@@ -86,6 +87,12 @@ BEHIND = {
     "await": {"41 tag": ()},
     "cut": {"41 size": ("41 tag", "36"), "41 tag": ("36",), "36": ()},
     "primitive": {"41 tag": ("30", "36"), "30": ("36",), "36": ()}}
+
+def ground_goals(call):
+    """Each ground alone, and each two that can hold at once."""
+    for first, others in BEHIND[call].items():
+        yield f"{call}: {first} alone"
+        yield from (f"{call}: {first} before {other}" for other in others)
 
 def holding(*grounds):
     """The grounds whose test is true, of (ground, test)."""
@@ -134,6 +141,21 @@ def later_grounds(end, fields, payload):
     fits = len(gathered) + len(payload) <= LONGEST_MESSAGE
     return holding(("22", fields.sequence != (sequence + 1) % 4), ("16 later", cut), ("23", not fits),
                    ("19 whole", payload and fields.eom and fits and not is_sealed(gathered + payload)))
+
+# Control primitives
+
+# What an error reply tells by its status, bit and byte
+TOLD = {(0x04, 0, 2): "MEB", (0x04, 1, 2): "CIAP", (0x03, 0, 0): "opcode", (0x04, 0, 6): "CPSP"}
+
+def control_grounds(message):
+    header, request = message_header(message), control_request(message)
+    return holding(("MEB", header.meb), ("CIAP", header.ciap), ("opcode", request.opcode > REPLAY),
+                   ("CPSP", request.opcode == REPLAY and request.cpsp))
+
+def control_answer(reply):
+    """The ground that a control reply tells, or "0" for success."""
+    status, bit, low, high = reply[4:8]
+    return TOLD[status, bit, low | high << 8] if status else "0"
 
 # The endpoint's other calls. `was_taken` says of each slot whether its last command was taken.
 

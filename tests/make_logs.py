@@ -6,7 +6,8 @@ and tests/scripts/ describes.
 
 What an input has to print is written there by hand, line by line; the output that is stored is the
 second program's, and the two must agree. Nothing is written for a folder in which they do not. Where a
-later request changes what an input prints, the input moves to that request's folder.
+later request gives an input another meaning, the input moves to that request's folder; where a look only
+shows more of the state, its lines are remade.
 """
 import argparse
 import runpy

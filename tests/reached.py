@@ -4,14 +4,16 @@ GOALS is every line that a right set of logs has to reach; what a log can never 
 ticket last taken is never that of an untaken command, short of 2^32 commands), 36, 38 and 40 (buffer, EID
 and stores are the log program's own).
 """
+import reached_replay
 import runs
-from runs import STATES, Run, entry_ground, has_begun, in_transmit, is_paused
+from grounds import control_answer, control_grounds, ground_goals
+from reached_replay import Replays
+from runs import ENTRY_GROUNDS, PRIMITIVES, STATES, Run, entry_ground, has_begun, in_transmit, is_paused
 from second.endpoint import STORE, Process
 from second.log import COMPLETE, LENGTHS, PACKET, POLL, RESET, TAKE, TIMEOUT, Log, records
 from second.wire import (ABORT, CRC_TABLE, GET_STATE, PAUSE, PAYLOAD, RESUME, control_request, message_header,
                          packet_fields)
 
-PRIMITIVES = {PAUSE: "Pause", RESUME: "Resume", ABORT: "Abort", GET_STATE: "Get State"}
 ANSWERS = {"receive": (0, 1, 2, *range(10, 24)), "poll": (0, 1), "timeout": (0, 30, 37),
            "take": (0, 30, 31, 33), "complete": (0, 30, 31, 32, 35), "reset": (0,)}
 SIZES = (3, 4, 56, 57, 4216, 4217)
@@ -45,7 +47,7 @@ def slot_goals(slot):
     yield f"slot {slot} begins while the other is in Transmit too"
     for state in STATES:
         yield from state_goals(slot, state)
-    for ground in ("NMIMT", "MEB", "size"):
+    for ground in ENTRY_GROUNDS:
         yield from (f"slot {slot}: answered at once for {ground}, CIAP {ciap}" for ciap in (0, 1))
     yield from (f"slot {slot}: complete with {size} bytes" for size in SIZES)
     yield f"slot {slot}: completed while paused"
@@ -57,7 +59,7 @@ def slot_goals(slot):
         yield f"slot {slot}: assembly ended by a new start that answers {answer}"
 
 def endpoint_goals():
-    yield from (f"control error for {ground}" for ground in ("MEB", "CIAP", "opcode"))
+    yield from ground_goals("control")
     yield "control reply replaced by a newer one"
     yield "control reply between two packets of a response"
     yield "command packet between two control replies"
@@ -74,7 +76,7 @@ def endpoint_goals():
     yield from (ALL_ENTRIES.format(message) for message in ("a request", "a response"))
     yield from (f"bad for {fault}" for fault in FAULTS)
 
-GOALS = (*call_goals(), *slot_goals(0), *slot_goals(1), *endpoint_goals())
+GOALS = (*call_goals(), *slot_goals(0), *slot_goals(1), *endpoint_goals(), *reached_replay.GOALS)
 
 # What a log reaches
 
@@ -96,6 +98,7 @@ class LogRun(Run):
         self.shown = None             # (slot, word) of a Get State whose reply waits
         self.last_kind = None         # kind of the last packet handed out
         self.first_sequences = set()
+        self.replays = Replays(self)
 
     def record(self, tag, body):
         super().record(tag, body)
@@ -121,6 +124,7 @@ class LogRun(Run):
     def received(self, before, packet, line):
         answer = int(line)
         self.note(f"receive answers {answer}")
+        self.replays.received(before, packet, answer)
         if answer in range(10, 15):
             return
         fields, payload = packet_fields(packet), packet[4:]
@@ -139,7 +143,7 @@ class LogRun(Run):
         if answer == 19:
             self.note(f"19 for {'a command of one packet' if header.nmimt else 'a control primitive'}")
         if answer == 2:
-            self.controlled(before, header, control_request(payload))
+            self.controlled(before, header, payload)
         if answer == 1:
             self.entered(before, header)
 
@@ -180,14 +184,13 @@ class LogRun(Run):
 
     # Control primitives
 
-    def controlled(self, before, header, request):
+    def controlled(self, before, header, message):
         self.note("control reply replaced by a newer one", before.reply is not None)
         self.shown = None
-        for ground, wrong in (("MEB", header.meb), ("CIAP", header.ciap),
-                              ("opcode", request.opcode not in PRIMITIVES)):
-            if wrong:
-                self.note(f"control error for {ground}")
-                return
+        grounds, request = control_grounds(message), control_request(message)
+        self.answered("control", grounds, control_answer(self.endpoint.reply[1]))
+        if grounds:
+            return
         for slot in (0, 1) if request.opcode in (PAUSE, RESUME) else (header.csi,):
             self.acted(before, slot, request.opcode)
         if request.opcode == GET_STATE:
@@ -209,14 +212,16 @@ class LogRun(Run):
     # Polling
 
     def polled(self, before, _, line):
-        answer, _, packet = line.partition(" ")
+        answer, _, handed_out = line.partition(" ")
+        packet = bytes.fromhex(handed_out)
         self.note(f"poll answers {answer}")
+        self.replays.polled(before, answer, packet)
         if answer == "0":
             self.nothing_sent(before)
         elif self.endpoint.reply is not before.reply:
             self.reply_sent(before)
         else:
-            self.command_packet_sent(before, packet_fields(bytes.fromhex(packet)))
+            self.command_packet_sent(before, packet_fields(packet))
 
     def nothing_sent(self, before):
         sending = in_transmit(before)
@@ -249,15 +254,18 @@ class LogRun(Run):
     def timed_out(self, before, body, line):
         slot = body[0]
         self.note(f"timeout answers {line}")
+        self.replays.called(before, f"timeout {line}", slot)
         self.note(f"slot {slot}: timeout refused because of the pause flag",
                   is_paused(before, slot) and before.state(slot) == "Receive")
 
-    def taken(self, _before, _body, line):
+    def taken(self, before, body, line):
         self.note(f"take answers {line}")
+        self.replays.taken(before, body[0], line)
 
     def completed(self, before, body, line):
         slot, size = body[0], len(body) - 1
         self.note(f"complete answers {line}")
+        self.replays.called(before, f"complete {line}", slot)
         self.note(f"slot {slot}: complete with {size} bytes", line in ("0", "35") and size in SIZES)
         self.note(f"slot {slot}: completed while paused", line == "0" and is_paused(before, slot))
         if line == "0":
@@ -267,6 +275,7 @@ class LogRun(Run):
 
     def was_reset(self, before, _body, line):
         self.note(f"reset answers {line}")
+        self.replays.called(before, "reset")
         for slot in (0, 1):
             self.note(f"slot {slot}: reset in {before.state(slot)}")
         self.shown = None

@@ -1,13 +1,16 @@
 """What scripts for the calls program reach.
 
-GOALS is every line that a right set of scripts has to reach, those of `reached_requester` too. The most of it
-are pairs: each two grounds on which a call can refuse at the same time, of which the earlier one has to be
-answered.
+GOALS is every line that a right set of scripts has to reach, those of `reached_requester` and of
+`reached_replay` too. The most of it are pairs: each two grounds on which a call can refuse at the same time,
+of which the earlier one has to be answered.
 """
+import reached_replay
 import reached_requester
 import runs
-from grounds import (BEHIND, complete_grounds, poll_grounds, read_grounds, receive_grounds, take_grounds,
-                     timeout_grounds)
+from exchanges import written_by
+from grounds import (BEHIND, complete_grounds, control_answer, control_grounds, ground_goals, poll_grounds,
+                     read_grounds, receive_grounds, take_grounds, timeout_grounds)
+from reached_replay import Replays
 from reached_requester import RequesterRun
 from runs import EIDS, FAR_SLOTS, HIGH_PARTS, STATES, answer_of, is_paused, packet_kind
 from second.calls import (COMPLETE, LENGTH, LENGTHS, LONGEST_BODY, LOOK, MEMORY, NUMBER, POLL, READ, RECEIVE,
@@ -29,11 +32,9 @@ FAULTS = ("an unknown tag", "a wrong length", "a body over 8,192", "a store abov
 
 # The goals
 
-def ground_goals():
-    for call, behind in BEHIND.items():
-        for first, others in behind.items():
-            yield f"{call}: {first} alone"
-            yield from (f"{call}: {first} before {other}" for other in others)
+def refusal_goals():
+    for call in BEHIND:
+        yield from ground_goals(call)
     yield from (f"receive: 40 alone, for {what}"
                 for what in ("a primitive", "a first packet", "a later packet"))
 
@@ -74,6 +75,8 @@ def slot_goals(slot):
     yield from (f"slot {slot}: {what} after other lengths were lent"
                 for what in ("a part read", "a packet joined", "completed", "a packet sent"))
     yield f"look: slot {slot} busy"
+    yield f"look: slot {slot} holds a response"
+    yield f"look: slot {slot} in a replay"
 
 def look_goals():
     for first in STATES:
@@ -87,8 +90,8 @@ def call_goals():
     yield "read gives a part"
     yield from (f"bad for {fault}" for fault in FAULTS)
 
-GOALS = (*call_goals(), *ground_goals(), *argument_goals(), *slot_goals(0), *slot_goals(1), *look_goals(),
-         *reached_requester.GOALS)
+GOALS = (*call_goals(), *refusal_goals(), *argument_goals(), *slot_goals(0), *slot_goals(1), *look_goals(),
+         *reached_requester.GOALS, *reached_replay.SCRIPT_GOALS)
 
 # What a script reaches
 
@@ -100,6 +103,7 @@ class CallsRun(RequesterRun):
             SETUP: self.was_set_up, STORES: self.were_lent, RECEIVE: self.received, TAKE: self.taken,
             READ: self.was_read, COMPLETE: self.completed, POLL: self.polled, TIMEOUT: self.timed_out,
             RESET: self.was_reset, LOOK: self.looked})
+        self.replays = Replays(self)
         self.was_taken = [False, False]         # whether the slot's last command was taken
         self.given = [set(), set()]             # tickets given since the last reset or setup
         self.over_reset, self.over_setup = [set(), set()], [set(), set()]
@@ -154,19 +158,24 @@ class CallsRun(RequesterRun):
         self.note(f"setup answers {line}")
         self.note(f"setup with EID {body[0]} answers {line}")
         self.without_stores("setup", line, before)
+        self.replays.called(before, "setup")
         for slot in (0, 1):
             self.note(f"slot {slot}: setup {line} in {before.state(slot)}")
             self.over_setup[slot] |= self.given[slot] | self.over_reset[slot]
             self.given[slot], self.over_reset[slot] = set(), set()
             self.was_taken[slot] = False
 
-    def were_lent(self, _before, body, line):
+    def were_lent(self, before, body, line):
         self.note(f"stores answers {line}")
+        self.replays.called(before, "other lengths lent" if not self.endpoint.stores_fit() else "stores")
         self.note("stores of {} and {} lent".format(*TWO_LENGTHS.unpack(body)))
 
     def received(self, before, packet, line):
         self.note(f"receive answers {line}")
         self.stored("receive", before, line == "40")
+        self.replays.received(before, packet, int(line))
+        if line == "2":
+            self.answered("control", control_grounds(packet[4:]), control_answer(self.endpoint.reply[1]))
         if int(line) < 10:
             slots = [slot for slot in (0, 1) if self.endpoint.jobs[slot] is not before.jobs[slot]]
             for slot in slots:
@@ -182,6 +191,7 @@ class CallsRun(RequesterRun):
     def taken(self, before, body, line):
         slot, answer = *NUMBER.unpack(body), answer_of(line)
         self.note(f"take answers {answer}")
+        self.replays.taken(before, slot, answer)
         self.answered("take", take_grounds(before, self.was_taken, slot), answer)
         self.named("take", slot, lambda low: not take_grounds(before, self.was_taken, low))
         if answer == "0":
@@ -193,6 +203,7 @@ class CallsRun(RequesterRun):
         slot, = NUMBER.unpack(body)
         part = line != "0 -"
         self.note("read gives a part", part)
+        self.replays.called(before, "read", slot)
         grounds = read_grounds(before, slot)
         self.answered("read", grounds, None)
         if part == bool(grounds):
@@ -205,6 +216,7 @@ class CallsRun(RequesterRun):
     def completed(self, before, data, line):
         slot, ticket = TWO_NUMBERS.unpack(data[:8])
         self.note(f"complete answers {line}")
+        self.replays.called(before, f"complete {line}", slot)
         self.answered("complete", complete_grounds(before, self.was_taken, slot, ticket, data[8:]), line)
         self.stored("complete", before, line == "40")
         self.named("complete", slot,
@@ -229,6 +241,7 @@ class CallsRun(RequesterRun):
     def polled(self, before, body, line):
         length, answer = *LENGTH.unpack(body), answer_of(line)
         self.note(f"poll answers {answer}")
+        self.replays.polled(before, answer, written_by(line) if answer == "1" else b"")
         self.answered("poll", poll_grounds(before, length), answer)
         self.stored("poll", before, answer == "40")
         ready = before.ready()
@@ -243,6 +256,7 @@ class CallsRun(RequesterRun):
     def timed_out(self, before, body, line):
         slot, = NUMBER.unpack(body)
         self.note(f"timeout answers {line}")
+        self.replays.called(before, f"timeout {line}", slot)
         self.answered("timeout", timeout_grounds(before, slot), line)
         self.named("timeout", slot, lambda low: not timeout_grounds(before, low))
         if line == "0":
@@ -250,6 +264,7 @@ class CallsRun(RequesterRun):
 
     def was_reset(self, before, _body, line):
         self.note(f"reset answers {line}")
+        self.replays.called(before, "reset")
         self.without_stores("reset", line, before)
         for slot in (0, 1):
             self.note(f"slot {slot}: reset in {before.state(slot)}")
@@ -263,6 +278,8 @@ class CallsRun(RequesterRun):
         for slot in (0, 1):
             self.note(f"look: slot {slot} paused in {states[slot]}", is_paused(endpoint, slot))
             self.note(f"look: slot {slot} busy", endpoint.flags_word(slot) & 8)
+            self.note(f"look: slot {slot} holds a response", endpoint.held(slot))
+            self.note(f"look: slot {slot} in a replay", self.replays.sends_again(endpoint, slot))
         for bit in FLAG_BITS:
             self.note(f"look: flag {bit}", endpoint.flags >> bit & 1)
         self.note("look: turn 1", endpoint.turn)

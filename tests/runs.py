@@ -1,12 +1,12 @@
 """Runs records on the second program and notes what they reach.
 
 A goal is a short line of text. `reached` has those of the logs, `reached_calls` and `reached_requester` those
-of the scripts.
+of the scripts, and `reached_replay` those of Replay for both.
 """
 import copy
 import io
 
-from second.wire import CONTROL, message_header, packet_fields
+from second.wire import ABORT, CONTROL, GET_STATE, PAUSE, REPLAY, RESUME, message_header, packet_fields
 
 # Arguments at a bound, for calls of both ends; what setup answers to an EID
 FAR_SLOTS = (2, (1 << 32) - 1)
@@ -14,6 +14,9 @@ HIGH_PARTS = (1 << 8, 1 << 16, 1 << 31)         # added to a slot or a ticket: t
 EIDS = {0: 38, 7: 38, 8: 0, 254: 0, 255: 38}
 
 STATES = ("Idle", "Receive", "Process untaken", "Process taken", "Process answered", "Transmit")
+PRIMITIVES = {PAUSE: "Pause", RESUME: "Resume", ABORT: "Abort", GET_STATE: "Get State", REPLAY: "Replay"}
+COUNTS = (1, 2, 66)                             # packets of a message that is a goal
+ENTRY_GROUNDS = ("NMIMT", "MEB", "size")
 
 def picture(endpoint):
     """The endpoint as it is now, to be looked at after a call; the stores are not copied."""

@@ -3,8 +3,8 @@
 The lines are written by hand from the document. Packets and responses are put together here and not
 by the second program, so that the two can disagree; only the integrity check is shared.
 """
-from records import FULL, POLL, ask, command, packet, packets
-from second.wire import GET_STATE, MI, sealed
+from records import FULL, POLL, ask, command, control, damaged, packet, packets, record
+from second.wire import GET_STATE, MI, REPLAY, sealed
 
 class Described(dict):
     """The logs or the scripts of a folder: a name, and its records and lines."""
@@ -22,11 +22,23 @@ class Described(dict):
 # Records that many logs use
 MI_COMMAND = packet(command())
 OTHER = packet(command(slot=1), tag=3)                # an MI command for slot 1
+COMMANDS, TAGS = (MI_COMMAND, OTHER), (1, 3)          # an MI command of each slot, and its message tag
 BODY = bytes((0, 7, 8, 9))
 
 def start(slot=0, tag=1, **fields):
     """The first of two packets of a command; the slot is then in Receive."""
     return packets(command(100, slot, **fields), tag=tag)[0]
+
+def refused(slot):
+    """For each refusal that stores nothing a packet that gets it, where the slot is Idle and nothing is
+    assembled. It names the slot, if it is long enough."""
+    whole, replay = command(slot=slot), control(REPLAY, slot)
+    return (("10", record(1, b"\1\x08\x09\xc9"), 10), ("11", packet(command(65, slot)), 11),
+            ("12", packet(whole, version=2), 12), ("13", packet(whole, destination=9), 13),
+            ("14", packet(whole, to=0), 14), ("15-type", packet(b"\x85" + whole[1:]), 15),
+            ("15-ror", packet(command(slot=slot, ror=1)), 15), ("16", packet(whole, eom=0), 16),
+            ("17", packet(whole[:7]), 17), ("18", packet(replay + b"\0"), 18),
+            ("19-primitive", packet(damaged(replay)), 19), ("21", packet(whole, som=0), 21))
 
 # What a poll prints
 def sent(payload, som=1, eom=1, sequence=0, to=9, tag=1, source=8):
@@ -53,3 +65,7 @@ def cut(message, tag=1):
     """The lines of the polls that send a whole message."""
     parts = [message[at:at + FULL] for at in range(0, len(message), FULL)]
     return [sent(part, i == 0, i == len(parts) - 1, i, tag=tag) for i, part in enumerate(parts)]
+
+def sends(slot=0, body=BODY):
+    """The lines of the polls that send the response to the slot's command of COMMANDS."""
+    return cut(response(body, slot), TAGS[slot])

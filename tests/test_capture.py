@@ -21,7 +21,7 @@ for folder in (HERE, HERE.parent / "tools"):
 from captures import cli, pcap, told  # noqa: E402
 from records import POLL, ask, command, complete, packet, take  # noqa: E402
 from second import log as second_log  # noqa: E402
-from second.wire import GET_STATE, PAUSE, packet_of, response  # noqa: E402
+from second.wire import GET_STATE, PAUSE, REPLAY, packet_of, response  # noqa: E402
 from programs import LOG  # noqa: E402
 from stored import stored_inputs  # noqa: E402
 
@@ -592,6 +592,15 @@ class Making(Case):
         self.assertEqual([tag for tag, _ in records_of(log)], [1, 1, 4, 5, 2, 2, 4, 5, 2, 2])
         self.assertEqual(sent, [part.hex() for part in second + first])
 
+    def test_answer_replay(self):
+        asked, = data_of(ask(REPLAY))
+        reply = bytes((1, 9, 8, 0xC2)) + response(0, 0, bytes((0, 0x5A, 1, 0)))
+        parts = response_packets(bytes(range(100)))
+        log, sent, said = self.answered([PACKET, *parts, asked, reply, *parts])
+        self.assertEqual([tag for tag, _ in records_of(log)], [1, 4, 5, 2, 2, 1, 2, 2, 2])
+        self.assertEqual(sent, [part.hex() for part in (*parts, reply, *parts)])
+        self.assertNotIn("no command waiting", said)
+
     def test_answer_with_packets_between(self):
         asked, = data_of(ask(PAUSE, slot=1))
         reply = bytes((1, 9, 8, 0xC2)) + response(0, 1, bytes((0, 0x5A, 1, 0)))
@@ -664,6 +673,16 @@ class Check(Case):
         self.assertEqual(status, 1)
         self.assertIn(f"missing  line 1: the endpoint sends nothing here; the board sent {REPLY.hex()}", out)
         self.assertIn("1 the same; 0 other than the endpoint's; 1 not sent", out)
+
+    def test_replay(self):
+        asked, = data_of(ask(REPLAY))
+        reply = bytes((1, 9, 8, 0xC2)) + response(0, 0, bytes((0, 0x5A, 1, 0)))
+        status, out, _ = self.check([PACKET, REPLY, asked, reply, REPLY])
+        self.assertEqual(status, 0, out)
+        self.assertIn("3 the same; 0 other", out)
+        status, out, _ = self.check([PACKET, REPLY, asked, reply])
+        self.assertEqual(status, 1)
+        self.assertIn(f"extra    at the end: the endpoint sends {REPLY.hex()}", out)
 
     def test_extra_in_the_middle_and_at_the_end(self):
         asked, = data_of(ask(GET_STATE))

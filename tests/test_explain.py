@@ -26,7 +26,7 @@ from explain import answers, cli, page, reading  # noqa: E402
 from generate import generate  # noqa: E402
 from records import POLL, RESET, ask, command, complete, control, damaged, packet, packets, record, take, timeout  # noqa: E402
 from second.log import log_lines, records  # noqa: E402
-from second.wire import ABORT, GET_STATE, PAUSE, RESUME  # noqa: E402
+from second.wire import ABORT, GET_STATE, PAUSE, REPLAY, RESUME  # noqa: E402
 from programs import LOG  # noqa: E402
 from stored import stored_inputs  # noqa: E402
 
@@ -71,6 +71,7 @@ def summary(log):
 
 START = packets(command(200))[0]                # slot 0 is then in Receive
 WAITING = [packet(command()), take()]           # a command that is taken
+SENT = [*WAITING, complete(bytes(57)), POLL, POLL]          # slot 0 then holds its response, 65 bytes in two packets
 
 
 class Case(unittest.TestCase):
@@ -241,6 +242,134 @@ class Effects(Case):
                   "slot 0 goes from Transmit to Idle")
 
 
+class Replays(Case):
+    HOLDS = "slot 0 Idle, holds its last response (65 bytes to EID 9 under tag 1), ticket 1"
+    AGAIN = "sent again by the Replay of record "
+
+    def slots(self, log):
+        """What the text says of the slots after a log."""
+        return [line for line in explained(log).splitlines() if "   = " in line][-1].split("= ")[1]
+
+    def test_reply(self):
+        again = "TAG 5ah, CPSR 1: the slot sends its last response again, 65 bytes to EID 9 under tag 1"
+        self.says([*SENT, ask(REPLAY, source=20)], "Replay for slot 0, TAG 5ah, CPSP 0000h, 12 bytes", f"its reply is {again}",
+                  "slot 0 goes from Idle to Transmit")
+        self.says([*SENT, ask(REPLAY, source=20), POLL], "EID 8 to 20", f"the reply to Replay for slot 0 of record 6: {again}")
+
+    def test_nothing_to_send_again(self):
+        for log, slot, ground in ((SENT, 1, "held no response"), (WAITING[:1], 0, "was not Idle but in Process untaken"),
+                                  (WAITING, 0, "was not Idle but in Process taken"), ([START], 0, "was not Idle but in Receive"),
+                                  ([packet(command(8, ciap=1))], 0, "was not Idle but in Process with its response there"),
+                                  ([*SENT, ask(REPLAY)], 0, "was not Idle but in Transmit")):
+            with self.subTest(ground):
+                self.says([*log, ask(REPLAY, slot)], f"CPSR 0: nothing happened, since the slot {ground}")
+                self.assertNotIn("goes from", last([*log, ask(REPLAY, slot)]))
+        self.says([START, ask(REPLAY, tag=1)], "ends the assembly of slot 0",
+                  "CPSR 0: nothing happened, since the slot held no response")
+
+    def test_cpsp(self):
+        for cpsp in (1, 2, 0x100):
+            self.says([*SENT, ask(REPLAY, cpsp=cpsp)], f"CPSP {cpsp:04x}h",
+                      "error 04h (invalid parameter) at byte 6 bit 0, CPSP: Replay takes only CPSP 0; it did not act")
+        self.assertNotIn("takes only", last([*SENT, ask(REPLAY, meb=1)]))
+        self.says([*WAITING, complete(bytes((4, 0, 6, 0))), POLL],
+                  "status 04h (invalid parameter) at byte 6 bit 0, behind the opcode")
+
+    def test_packets(self):
+        log = [*SENT, ask(REPLAY), POLL, POLL, POLL]
+        self.says(log[:-1], f"packet 1 of 2 of the response of slot 0 to its MI command, status 00h (success), {self.AGAIN}6")
+        self.says(log, f"packet 2 of 2 of the response of slot 0, {self.AGAIN}6")
+        self.assertEqual([each["sent"] and each["sent"]["replay"] for each in objects(log)[:-1]], [None] * 7 + [6, 6])
+        self.says([*log, ask(REPLAY), POLL, POLL], f"{self.AGAIN}10")
+        self.says([packet(command(8, slot=1), tag=3), POLL, ask(REPLAY, slot=1), POLL, POLL],
+                  f"packet 1 of 1 of the response of slot 1 to its MI command, status 05h (invalid command size), {self.AGAIN}3")
+
+    def test_packets_of_a_later_command(self):
+        both = [*SENT, packet(command(8, slot=1), tag=3)]
+        self.says([*both, ask(REPLAY), POLL, POLL], "of the response of slot 1")
+        self.assertNotIn(self.AGAIN, last([*both, ask(REPLAY), POLL, POLL]))
+        for end in (POLL * 3, ask(ABORT) + POLL, RESET):
+            with self.subTest(end):
+                log = [*SENT, ask(REPLAY), end, packet(command(8)), POLL]
+                self.says(log, "packet 1 of 1 of the response of slot 0")
+                self.assertNotIn(self.AGAIN, last(log))
+
+    def test_held(self):
+        self.assertEqual(self.slots(SENT), f"{self.HOLDS}; slot 1 Idle, ticket 0")
+        self.assertNotIn("holds", self.slots([*SENT, ask(REPLAY)]))
+        self.assertEqual(self.slots([*SENT, ask(REPLAY), POLL, POLL, POLL]), f"{self.HOLDS}; slot 1 Idle, ticket 0")
+        self.assertIn("slot 1 Idle, holds its last response (12 bytes to EID 7 under tag 3), ticket 1",
+                      self.slots([packet(command(8, slot=1), source=7, tag=3), POLL]))
+
+    def test_held_for_a_program(self):
+        held = {"eid": 9, "tag": 1, "bytes": 65}
+        *found, end = objects([*SENT, ask(REPLAY)])
+        self.assertEqual([[slot["held"] for slot in each["slots"]] for each in found],
+                         [[None, None]] * 4 + [[held, None], [None, None]])
+        self.assertEqual([slot["held"] for slot in end["summary"]["slots"]], [None, None])
+        self.assertEqual([slot["held"] for slot in summary(SENT)["slots"]], [held, None])
+
+    def test_held_at_the_end(self):
+        self.assertIn("\nSlot 0, now Idle, holds its last response (65 bytes to EID 9 under tag 1)\n", explained(SENT))
+        self.assertIn("\nSlot 1, now Idle\n", explained(SENT))
+
+    def test_polls_while_it_is_held(self):
+        self.says([*SENT, POLL], "0, nothing to send: no control reply waits, and no slot is in Transmit")
+
+    def test_lost(self):
+        for log, words in (([START], "slot 0 goes from Idle to Receive and loses its last response"),
+                           ([packet(command())], "slot 0 goes from Idle to Process untaken and loses its last response"),
+                           ([packet(command(8))], "slot 0 goes from Idle to Transmit and loses its last response"),
+                           ([packet(damaged(command()))], "slot 0 loses its last response"),
+                           ([ask(ABORT)], "slot 0 loses its last response"), ([RESET], "slot 0 loses its last response"),
+                           ([ask(REPLAY), ask(ABORT)], "slot 0 goes from Transmit to Idle and loses its last response"),
+                           ([ask(REPLAY), POLL, POLL, RESET], "slot 0 goes from Transmit to Idle and loses its last response")):
+            with self.subTest(words):
+                self.says([*SENT, *log], words)
+                self.assertNotIn("holds", self.slots([*SENT, *log]))
+
+    def test_not_lost(self):
+        for log in ([ask(PAUSE)], [ask(PAUSE), ask(RESUME)], [ask(GET_STATE, cpsp=1)], [packet(command(slot=1))],
+                    [ask(ABORT, slot=1)], [ask(ABORT, meb=1)], [packet(command(), destination=9)], [packet(b"\x84", eom=0)],
+                    [timeout()], [take()], [POLL], [ask(REPLAY, cpsp=1)], [ask(REPLAY), POLL, POLL, POLL]):
+            with self.subTest(log):
+                self.assertNotIn("loses", last([*SENT, *log]))
+                self.assertIn(self.HOLDS, self.slots([*SENT, *log]))
+        self.assertNotIn("loses", last([*SENT, ask(REPLAY)]))
+        self.assertNotIn("loses", last([*WAITING, complete(BODY), ask(ABORT)]))
+
+    def test_while_the_other_slot_is_paused(self):
+        paused = [*SENT, packet(command(slot=1), tag=3), ask(PAUSE), POLL, ask(REPLAY), POLL]
+        self.says([*paused, POLL], "because the pause flag of slot 1 is set: the response of slot 0 waits for Resume")
+        self.says([*paused, ask(RESUME), POLL], f"{self.AGAIN}9")
+
+    def test_summary(self):
+        log = [*SENT, ask(REPLAY), POLL, ask(REPLAY), POLL, POLL, POLL, ask(REPLAY), ask(ABORT), ask(REPLAY, cpsp=1), POLL, *SENT,
+               ask(REPLAY), RESET]
+        found = summary(log)
+        self.assertEqual(found["primitives"], {"Abort": 1, "Replay": 5})
+        self.assertEqual(found["slots"][0]["ended"], {"sent": 2, "aborted": 0, "reset": 0})
+        self.assertEqual(found["slots"][0]["replays"], {"asked": 5, "begun": 3, "sent": 1, "aborted": 1, "reset": 1})
+        self.assertEqual(found["longest_wait"], {"records": 2, "slot": 0, "ticket": 1, "from": 3, "to": 5})
+        for words in ("slot 0: 1 replay aborted", "slot 0: 1 replay ended by a reset",
+                      "slot 0: 2 Replays sent nothing (CPSR 0 or an error)"):
+            self.assertIn(words, found["remarks"])
+        self.assertIn("  replays: 1 sent to the last packet, 1 aborted, 1 ended by a reset\n", explained(log))
+        self.assertIn("control primitives: 1 Abort and 5 Replay\n", explained(log))
+
+    def test_nothing_to_look_at(self):
+        self.assertEqual(summary([*SENT, ask(REPLAY), POLL, POLL, POLL])["remarks"], [])
+
+    def test_page(self):
+        holding, slots = Parsed(explained(SENT, "--html")), Parsed(explained([*SENT, ask(ABORT), POLL], "--html"))
+        self.assertEqual([attrs["class"] for attrs in holding.with_class("holding")], ["holding", "s0 holding down"])
+        self.assertEqual([attrs["class"] for attrs in slots.with_class("holding")], ["holding", "s0 holding down", "s0 holding up"])
+        self.assertIn(self.HOLDS, holding.with_class("lanes")[-1]["title"])
+        self.assertIn("last response still held", holding.text)
+        self.assertNotIn("last response still held", slots.text)
+        self.assertIn("replays begun", Parsed(explained([*SENT, ask(REPLAY)], "--html")).text)
+
+
 class Reading(Case):
     def test_offsets(self):
         found = objects([POLL, take(), packet(command()), POLL])
@@ -297,7 +426,8 @@ class Summaries(Case):
                          START, *packets(command(200, slot=1), tag=3)[:1], RESET, packet(command(slot=1))])
         self.assertEqual(found["slots"][0], {
             "slot": 0, "commands": 3, "completed": 1, "answered_at_once": 1, "ended": {"sent": 2, "aborted": 1, "reset": 0},
-            "assemblies_ended": {"timed_out": 1, "started_anew": 1, "dropped": 0, "aborted": 0, "reset": 1}, "state": "Idle"})
+            "assemblies_ended": {"timed_out": 1, "started_anew": 1, "dropped": 0, "aborted": 0, "reset": 1},
+            "replays": {"asked": 0, "begun": 0, "sent": 0, "aborted": 0, "reset": 0}, "state": "Idle", "held": None})
         self.assertEqual((found["slots"][1]["commands"], found["slots"][1]["state"]), (1, "Process untaken"))
         self.assertIn("slot 1 is still in Process untaken since record 16: the drive has not taken it", found["remarks"])
 
@@ -327,7 +457,9 @@ class Summaries(Case):
             found = summary(generate(seed, 500)[0])
             for slot in found["slots"]:
                 there = slot["state"] not in ("Idle", "Receive")
-                self.assertEqual(slot["commands"], sum(slot["ended"].values()) + there)
+                asked, begun, *ended = slot["replays"].values()
+                self.assertEqual(slot["commands"] + begun, sum(slot["ended"].values()) + sum(ended) + there)
+                self.assertLessEqual(begun, asked)
 
 
 class JsonLines(Case):
@@ -350,7 +482,7 @@ class JsonLines(Case):
         self.assertEqual((fourth["sent"]["slot"], fourth["sent"]["control"], fourth["sent"]["destination"]), (0, False, 9))
 
     def test_names_are_in_help(self):
-        for name in self.FIELDS:
+        for name in {*self.FIELDS, "held", "replay"}:
             self.assertIn(name, cli.EPILOG)
 
 

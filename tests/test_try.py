@@ -24,7 +24,7 @@ sys.path[:0] = [str(ROOT / "tools"), str(TESTS)]
 
 from explain.names import DONE, REFUSALS  # noqa: E402
 from second.calls import Calls, call_lines, records  # noqa: E402
-from second.wire import sealed  # noqa: E402
+from second.wire import response, sealed, success  # noqa: E402
 from trying import cli, requester_telling  # noqa: E402
 from trying.program import Trouble  # noqa: E402
 from trying.session import Quit, Session, Unexpected  # noqa: E402
@@ -55,6 +55,17 @@ class Printing:
 
     def line(self, record):
         return self.looks[record[0]] if record[0] in self.looks else self.lines.pop(0)
+
+
+class Misreporting(Second):
+    """A program that reports CPSR 0 in place of 1, and 1 in place of 0."""
+
+    def line(self, record):
+        found, endpoint = super().line(record), self.calls.endpoint
+        if record[0] == 18 and endpoint.reply:
+            who, message = endpoint.reply
+            endpoint.reply = who, response(0, 0, success(message[5], 1 - message[6]))
+        return found
 
 
 class WithoutRequester(Second):
@@ -141,6 +152,7 @@ class Building(Case):
                              ("command mi 8 opcode 1", "010809c98408"),
                              ("control abort slot 1 tag 5Ah cpsp 0x102", "010809ca84010000025a0201"),
                              ("control 200", "010809ca84000000c800"),
+                             ("control replay slot 1 tag 7", "010809ca8401000004070000"),
                              ("control get-state clear mtag 7 from 1", "010801cf8400000003000100"),
                              ("packet 01:08 0x09 c9 ones 2", "010809c9ffff")):
             with self.subTest(line=line):
@@ -209,6 +221,42 @@ class Telling(Case):
         self.does("control pause", "setup 8")
         self.says("poll", "0, nothing to send")
 
+    def test_a_held_response(self):
+        self.does("command mi 20 from 20 tag 3", "take 0", "complete 0 taken rising 61")
+        held = "slot 0 Idle, holds its last response (69 bytes to EID 20 under tag 3), ticket 1"
+        self.says("polls", "0, nothing to send: no control reply waits, and no slot is in Transmit",
+                  f"= {held}; slot 1 Idle, ticket 0")
+        self.says("look", f"{held}; its store: 4,224 bytes")
+        self.does("expect slot 0 idle", "command slot 1 mi 20 bad-check")
+        self.says("command mi 20 dest 9", "13, ")
+        self.says("look", held)
+        self.says("command mi 20 bad-check", "19, ", "slot 0 loses its last response", "its payload stays in store 0",
+                  "= slot 0 Idle, ticket 1; slot 1 Idle, ticket 0")
+        self.does("command mi 19", "polls")
+        self.says("command mi 20", "slot 0 goes from Idle to Process untaken and loses its last response")
+
+    def test_replay(self):
+        again = "CPSR 1: the slot sends its last response again, 69 bytes to EID 20 under tag 3"
+        self.does("command mi 20 from 20 tag 3", "take 0", "complete 0 taken rising 61", "polls")
+        self.says("control replay tag 7", "Replay for slot 0, TAG 07h, CPSP 0000h", f"its reply is TAG 07h, {again}",
+                  "slot 0 goes from Idle to Transmit", "= slot 0 Transmit, 0 of 2 packets sent to EID 20 under tag 3, ticket 1")
+        self.says("poll", "EID 8 to 9", f"the reply to Replay for slot 0 of record 7: TAG 07h, {again}")
+        self.says("poll", "EID 8 to 20", "packet 1 of 2 of the response of slot 0 to its MI command, status 00h (success), "
+                  "sent again by the Replay of record 7")
+        self.says("poll", "packet 2 of 2 of the response of slot 0, sent again by the Replay of record 7", "69 bytes in 2 packets",
+                  "= slot 0 Idle, holds its last response (69 bytes to EID 20 under tag 3), ticket 1")
+        self.does("expect body rising 61", "command mi 19")
+        self.assertNotIn("again", self.does("polls"))
+
+    def test_replay_that_sends_nothing(self):
+        self.says("control replay slot 1", "Replay for slot 1", "CPSR 0: nothing happened, since the slot held no response")
+        self.does("command mi 20")
+        self.says("control replay", "CPSR 0: nothing happened, since the slot was not Idle but in Process untaken")
+        self.does("command slot 1 mi 19", "polls")
+        for options in ("cpsp 2", "cpsp 0x100", "clear", "slot 1 cpsp 1"):
+            self.says(f"control replay {options}",
+                      "error 04h (invalid parameter) at byte 6 bit 0, CPSP: Replay takes only CPSP 0; it did not act")
+
     def test_responses(self):
         self.does("command mi 20", "take 0", "complete 0 taken rising 61")
         self.says("poll", "packet 1 of 2 of the response of slot 0 to its MI command, status 00h (success)")
@@ -262,6 +310,24 @@ class Telling(Case):
         self.begin(Printing("17"))
         self.says("record 99 0102", "record with tag 99", "-> 17")
 
+    def test_a_replay_that_is_wrong(self):
+        """Nothing is told of the slot, with the Replay and with its reply."""
+        for held in ((), ("command mi 19", "polls")):
+            self.begin(Misreporting())
+            self.does(*held)
+            found = self.does("control replay")
+            self.assertIn("2, a control primitive was answered\n        !! the answer does not go with what a look shows", found)
+            self.assertNotIn("its reply is", found)
+            words = "nothing happened, since the slot was not Idle or held no response" if held else "sends its last response again"
+            self.assertIn(f"{words}\n", self.does("poll", "poll"))
+
+    def test_looks_that_are_none(self):
+        for phase in ("idle:9", "idle:9:1", "idle:9:1:12:0", "held:9:1:12", "receive:9:1"):
+            program = Printing()
+            program.looks = {25: program.looks[25].replace("slot1=0,0,0,idle", f"slot1=0,0,0,{phase}")}
+            with self.subTest(phase), self.assertRaisesRegex(Trouble, f"{phase} check0=.*, which is no state"):
+                self.begin(program)
+
 
 class Requesting(Case):
     """The requester's words, and packets from one end to the other."""
@@ -287,6 +353,7 @@ class Requesting(Case):
                 ("requester cut nmimt 15 20 ror meb ciap", "23 1800", "0801 8811", "84f80300"),
                 ("requester primitive abort slot 1 tag 5Ah cpsp 0x102",
                  "24 0c00", "0802 01000000 02 5a 0201 8811"),
+                ("requester primitive replay tag 7", "24 0c00", "0802 00000000 04 07 0000 8811"),
                 ("requester primitive 200 slot 4294967295 mtag 255 dest 7 buffer 0 clear",
                  "24 0c00", "07ff ffffffff c8 00 0100 0000"),
                 ("requester packet 01:09 0x08 c1 ones 2", "25 0600", "010908c1 ffff"),
@@ -407,11 +474,33 @@ class Requesting(Case):
                  "the reply to Pause for both slots of record 2: TAG 5ah, CPSR 0: no pause flag is set"),
                 ("requester primitive 9", 2, "the reply to control primitive 09h for slot 0 of record",
                  "error 03h (invalid opcode); it did not act"),
+                ("requester primitive replay slot 1 tag 7", 2, "the reply to Replay for slot 1 of record",
+                 "TAG 07h, CPSR 0: nothing happened, since the slot was not Idle or held no response"),
+                ("requester primitive replay cpsp 0x100", 2,
+                 "control reply of slot 0, status 04h (invalid parameter) at byte 6 bit 0, CPSP, 12 bytes",
+                 "error 04h (invalid parameter) at byte 6 bit 0, CPSP: Replay takes only CPSP 0; it did not act"),
+                ("control replay cpsp 1 mtag 4", 4, "it says error 04h (invalid parameter) at byte 6 bit 0, CPSP"),
                 ("control get-state tag 7", 2, "it says TAG 07h, CPSR 0000h"),
                 ("control 9 mtag 3", 3, "it says error 03h (invalid opcode)")):
             self.does(built, *(["deliver endpoint"] if built.startswith("requester") else []),
                       "polls", f"requester await 8 {tag}")
             self.says("deliver requester", *words, "= requester EID 9, awaits nothing")
+
+    def test_a_reply_to_replay_that_is_none(self):
+        self.does("requester primitive replay tag 7", "requester await 8 2")
+        self.says(f"requester packet 010908c2{sealed(bytes.fromhex('8480000000070200')).hex()}",
+                  "the reply to Replay for slot 0 of record 2: TAG 07h, CPSR 2: an unknown value")
+
+    def test_a_response_once_more(self):
+        """Replay brings a response under the tag of its command, whatever was gathered of it before."""
+        self.polled("rising 61")
+        self.does("requester await 8 1", "deliver requester only 1", "requester primitive replay tag 7", "deliver endpoint",
+                  "polls")
+        self.says("deliver requester tag 1", "ends the assembly from EID 8 under tag 1, 64 bytes gathered",
+                  "1, a response is complete: 69 bytes from EID 8 under tag 1")
+        self.does("expect body rising 61", "requester await 8 2")
+        self.says("deliver requester tag 2", "the reply to Replay for slot 0 of record",
+                  "TAG 07h, CPSR 1: the slot sends its last response again\n")
 
     def test_delivered_to_the_endpoint(self):
         self.does("requester cut mi 200")
@@ -521,7 +610,7 @@ class Lines(Case):
                 ("command mi 20 mi 20", "expected mi once"), ("command mi 20 bad", "expected one of slot, ciap,"),
                 ("command mi 20 slot 2", "expected a command slot, 0 to 1"), ("command mi 20 fill x", "expected bytes"),
                 ("command mi 20 skip 1", "skip leave none"), ("command mi 20 tag 1 mtag 1", "expected tag or mtag"),
-                ("control", "expected pause, resume, abort, get-state or an opcode, and the line ends"),
+                ("control", "expected pause, resume, abort, get-state, replay or an opcode, and the line ends"),
                 ("control stop", "and there is 'stop'"), ("control 256", "0 to 255, and there is '256'"),
                 ("packet 1", "expected bytes: hex, zeros N, ones N or rising N, and there is '1'"),
                 ("packet zeros", "expected a number of bytes for zeros"),
@@ -553,7 +642,7 @@ class Lines(Case):
                 ("requester cut slot 0 bytes 84", "expected bytes without slot: they are the whole message"),
                 ("requester cut bytes 84 x", "expected bytes: hex"),
                 ("requester cut mi 8189", "expected a message of at most 8,188 bytes, and it has 8,189"),
-                ("requester primitive", "expected pause, resume, abort, get-state or an opcode"),
+                ("requester primitive", "expected pause, resume, abort, get-state, replay or an opcode"),
                 ("requester primitive stop", "and there is 'stop'"),
                 ("requester primitive pause ciap", "expected one of slot, tag, cpsp"),
                 ("requester packet 1", "expected bytes: hex"), ("requester look 1", "expected the end"),
@@ -592,6 +681,8 @@ class Lines(Case):
         for word in WORDS.values():
             self.assertIn(word.usage, found)
         self.says("help command", "bad-check", "a wrong integrity check")
+        self.says("help control", "control pause|resume|abort|get-state|replay|OPCODE [slot N]", "Replay takes only 0")
+        self.says("help requester primitive", "requester primitive pause|resume|abort|get-state|replay|OPCODE [slot N]")
         self.says("help requester", "requester setup EID", "requester look")
         self.says("help requester cut", "bytes BYTES", "the rest of the line")
         self.assertNotIn("requester setup", self.does("help requester cut"))
@@ -604,12 +695,14 @@ class Lines(Case):
         self.assertEqual(cli.completion("", "comm", 0), "command ")
         self.assertEqual(cli.completion("", "com", 1), "complete ")
         self.assertEqual(cli.completion("control ", "get", 0), "get-state ")
+        self.assertEqual(cli.completion("control ", "rep", 0), "replay ")
         self.assertEqual(cli.completion("command slot 0 ", "bad", 0), "bad-check ")
         self.assertEqual(cli.completion("", "req", 0), "requester ")
         self.assertIsNone(cli.completion("", "req", 1))
         self.assertEqual(cli.completion("requester ", "p", 0), "primitive ")
         self.assertEqual(cli.completion("help requester ", "c", 0), "cut ")
         self.assertEqual(cli.completion("requester primitive ", "get", 0), "get-state ")
+        self.assertEqual(cli.completion("requester primitive ", "rep", 0), "replay ")
         self.assertEqual(cli.completion("requester cut mi 20 ", "buf", 0), "buffer ")
         self.assertEqual(cli.completion("deliver ", "end", 0), "endpoint ")
         self.assertIsNone(cli.completion("help command ", "", 0))

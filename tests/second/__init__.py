@@ -15,5 +15,6 @@ It is written from documents 01 and 02 and the page of the calls program alone.
     bench      the lines of the bench
 
 Each part uses only those above it. Sentences in double quotes in the comments are sentences of document 01
-or, in `requester`, of document 02 too and, in `calls`, of the page that fixes its records and lines.
+or, in `endpoint` and `requester`, of document 02 too and, in `calls`, of the page that fixes its records
+and lines.
 """

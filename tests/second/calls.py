@@ -66,7 +66,7 @@ def named(values):
 
 # What a look prints of a slot, behind its ticket and its two flags
 PHASES = {
-    Idle: lambda job: "idle",
+    Idle: lambda job: "idle" if job.held is None else joined("idle", *job.held.who, job.held.length),
     Receive: lambda job: joined("receive", *job.who, job.sequence, job.length),
     Process: lambda job: joined("process", *job.who, job.header.nmimt, job.length,
                                 "taken" if job.taken else "untaken"),

@@ -11,12 +11,14 @@ To look at it, changing nothing:
 
     .state(slot)       'Idle', 'Receive', 'Process untaken', 'Process taken',
                        'Process answered' (its response is there) or 'Transmit'
+    .held(slot)        ((source, tag), length) of the response that an Idle slot still holds, else None
     .flags_word(slot)  the CPSR that Get State would report for the slot
     .stores            the two lent stores, bytearrays; assign others to lend others
     .paused            bits 0 and 1: pause flags of slots 0 and 1
     .flags             bits 4 to 12 and 14; bit 3 is slot 0's, bit 19 is slot 1's bit 3
     .counts            the two ticket counts
-    .jobs              what each slot holds, another object whenever that changes
+    .jobs              what each slot holds (an Idle one: its last response, or nothing),
+                       another object whenever that changes
     .gathering         (source, tag) -> slot in Receive
     .reply             the waiting control reply ((source, tag), 12 bytes), or None
     .last_began        the slot whose response last began, or None
@@ -25,7 +27,7 @@ To look at it, changing nothing:
 """
 from collections import namedtuple
 
-from second.wire import (ABORT, CONTROL, LEAST, LONGEST_MESSAGE, LONGEST_PACKET, PAUSE, PAYLOAD,
+from second.wire import (ABORT, CONTROL, LEAST, LONGEST_MESSAGE, LONGEST_PACKET, PAUSE, PAYLOAD, REPLAY,
                          RESUME, control_request, error, is_sealed, message_header, packet_fields,
                          packet_of, response, success)
 
@@ -42,13 +44,16 @@ Ticket = namedtuple("Ticket", "number")
 def requester(fields):
     return fields.source, fields.tag
 
-Idle = namedtuple("Idle", "")
+# A response that was sent whole: `length` bytes, still at the front of the slot's store.
+Held = namedtuple("Held", "who length")
+
+Idle = namedtuple("Idle", "held")                                   # held: a Held, or None
 Receive = namedtuple("Receive", "who header sequence length")       # length: bytes gathered so far
 Process = namedtuple("Process", "who header length taken")          # length: the request's
 Answered = namedtuple("Answered", "who length response")            # the request's length, the response's
 Transmit = namedtuple("Transmit", "who length sent")                # the response's length, packets sent
 
-IDLE = Idle()
+IDLE = Idle(None)
 
 # "CPSR bits 1:0 state (Idle 0, Receive 1, Process 2, Transmit 3)"
 STATE_BITS = {Idle: 0, Receive: 1, Process: 2, Answered: 2, Transmit: 3}
@@ -76,15 +81,19 @@ def command_error(header, length):
         return error(0x05)
     return None
 
-def control_error(header, opcode):
+def control_error(header, request):
     # "First MEB 1 (04h, byte 2 bit 0), then CIAP 1 (04h, byte 2 bit 1), then opcode above 3 (03h);
     # none of these acts. These error replies carry no TAG."
+    # "Opcode 4 becomes known", so the opcode is tested for "above 4".
     if header.meb:
         return error(0x04, byte=2, bit=0)
     if header.ciap:
         return error(0x04, byte=2, bit=1)
-    if opcode > 3:
+    if request.opcode > 4:
         return error(0x03)
+    # "Only CPSP 0 is taken; any other gets 04h at byte 6 bit 0."
+    if request.opcode == REPLAY and request.cpsp != 0:
+        return error(0x04, byte=6, bit=0)
     return None
 
 
@@ -118,6 +127,10 @@ class Endpoint:
             return "Process answered"
         return type(job).__name__
 
+    def held(self, slot):
+        job = self.jobs[slot]
+        return job.held if isinstance(job, Idle) else None
+
     def flags_word(self, slot):
         # "CPSR bits 1:0 state [..], bit 3 the slot's flag above, bits 4 to 12 the endpoint's,
         # 2 and 13 zero, 14 reset seen, 15 the slot's pause flag."
@@ -148,9 +161,9 @@ class Endpoint:
                 return slot
         return None
 
-    def go_idle(self, slot):
+    def go_idle(self, slot, idle=IDLE):
         # "Any slot entering Idle loses its pause flag."
-        self.jobs[slot] = IDLE
+        self.jobs[slot] = idle
         self.paused &= ~(1 << slot)
 
     def refuse(self, number, bit=None):
@@ -249,6 +262,8 @@ class Endpoint:
     def gather(self, slot, fields, header, before, payload):
         """Take the payload of a command's packet, `before` bytes being there already."""
         # "A request is gathered at its front"; "a command refused with 19 leaves its payload stored"
+        # "The held response is lost once a command packet is stored for the slot (refused with 19 or not)":
+        # no state that the slot enters below keeps it.
         length = before + len(payload)
         self.stores[slot][before:length] = payload
         if not fields.eom:
@@ -279,7 +294,7 @@ class Endpoint:
         # "One control reply of 12 bytes waits in the state; a newer one replaces it.
         # Its CSI is the request's."
         request = control_request(message)
-        body = control_error(header, request.opcode)
+        body = control_error(header, request)
         if body is None:
             body = success(request.tag, self.act(request.opcode, header.csi, request.cpsp))
         self.reply = (who, response(CONTROL, header.csi, body))
@@ -297,11 +312,23 @@ class Endpoint:
             self.settle(1)
             return 0
         if opcode == ABORT:
-            # "its slot goes to Idle"
+            # "its slot goes to Idle"; "The held response is lost [..] at its Abort"
             cpsr = ABORT_CPSR[self.state(slot)]
             self.go_idle(slot)
             return cpsr
+        if opcode == REPLAY:
+            return self.replay(slot)
         return self.get_state(slot, cpsp)
+
+    def replay(self, slot):
+        # "If the slot is Idle and still holds its last response, it goes to Transmit and sends it again under
+        # the same tag to the same requester, CPSR 1; otherwise CPSR 0 and nothing happens."
+        # "The slot's ticket doesn't change."
+        held = self.held(slot)
+        if held is None:
+            return 0
+        self.jobs[slot] = Transmit(held.who, held.length, 0)
+        return 1
 
     def get_state(self, slot, cpsp):
         cpsr = self.flags_word(slot)
@@ -364,6 +391,7 @@ class Endpoint:
     def reset(self):
         # "both slots Idle, bits 3 to 12 cleared, control reply gone, bit 14 set, slot 0's turn,
         # last packet counted as not control, ticket counts kept; answer 0"
+        # "The held response is lost [..] at reset"
         self.go_idle(0)
         self.go_idle(1)
         self.flags = RESET_SEEN
@@ -417,7 +445,8 @@ class Endpoint:
         if job.sent == 0:
             self.last_began = slot
         if last:
-            self.go_idle(slot)                              # "After its last packet a slot is Idle."
+            # "After its last packet a slot is Idle", and it "still holds its last response".
+            self.go_idle(slot, Idle(Held(job.who, job.length)))
         else:
             self.jobs[slot] = job._replace(sent=job.sent + 1)
         return packet

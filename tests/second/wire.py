@@ -92,7 +92,7 @@ def error(status, byte=0, bit=0):
 
 # Control primitives
 
-PAUSE, RESUME, ABORT, GET_STATE = 0, 1, 2, 3
+PAUSE, RESUME, ABORT, GET_STATE, REPLAY = 0, 1, 2, 3, 4
 
 ControlRequest = namedtuple("ControlRequest", "opcode tag cpsp")
 

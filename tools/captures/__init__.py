@@ -9,7 +9,7 @@
     check      what the board sent beside what the endpoint sends
     cli        the command line
 
-Each part uses only those above it, and the second program of tests/, which knows the rules of document 01.
+Each part uses only those above it, and the second program of tests/, which knows the rules.
 """
 import pathlib
 import sys

@@ -222,7 +222,7 @@ class Maker:
             yield record
 
     def answered(self, packet, response):
-        """The take and the completion of a command's response, unless the endpoint made the response itself."""
+        """The take and the completion of a command's response, unless the endpoint made the response itself or sends it again."""
         if len(response.message) < 4 or message_header(response.message).nmimt == CONTROL:
             return
         slot = self.waiting_slot(packet, response)

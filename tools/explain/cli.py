@@ -34,12 +34,13 @@ about 800 bytes for each record: choose some of them where a log is long.
                primitive_tag and cpsp too); timeout, take, complete: slot; take, complete: ticket; complete: body_bytes;
                bad: cause
   answer       the number, null for bad; refused: whether it is a refusal
-  sent         the packet that a poll handed out (as in fields; with slot, control, and request: the primitive's record), or
-               null
+  sent         the packet that a poll handed out (as in fields; with slot, control, request: the primitive's record, and
+               replay: the record of the Replay that sends its response again, or null), or null
   words        what the text says, as a list
   second       the second program's line where it differs, else null
   slots        for each slot afterwards: slot, state, paused, ticket, eid, tag, get_state (the word that Get State would
-               report); in Receive gathered, with a response packets and sent
+               report), held (eid, tag and bytes of the last response, if an Idle slot still holds it, or null); in Receive
+               gathered, with a response packets and sent
   reply_waits  whether a control reply waits
 and at the end one with the field summary: records, log_bytes, kinds, answers, primitives, slots, bytes (in, refused, out,
 bodies), requesters, longest_wait, longest_pause, silent_polls, silent_polls_paused, replies_replaced, fault, differ, remarks.

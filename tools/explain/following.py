@@ -7,15 +7,17 @@ from collections import namedtuple
 
 from second.endpoint import Receive, Transmit
 from second.log import COMPLETE, PACKET, POLL, RESET, TAKE, TIMEOUT, Log
-from second.wire import CONTROL, PAUSE, RESUME, control_request, message_header, packet_fields
+from second.wire import CONTROL, PAUSE, REPLAY, RESUME, control_request, message_header, packet_fields, success
 
 from .names import DONE, REFUSALS
 
-# The slots and what belongs to both, as the second program has them. words: what Get State would report for each slot
-View = namedtuple("View", "jobs states paused words counts reply")
+# The slots and what belongs to both, as the second program has them. words: what Get State would report for each slot;
+# held: the last response, for each slot that is Idle and still holds it
+View = namedtuple("View", "jobs states paused words counts reply held")
 
-# A control primitive that was answered: the record that brought it, and the body of the reply that then waited
-Primitive = namedtuple("Primitive", "record opcode slot who tag cpsp body")
+# A control primitive that was answered: the record that brought it, the body of the reply that then waited, and the slots then,
+# where they are known
+Primitive = namedtuple("Primitive", "record opcode slot who tag cpsp body after", defaults=(None,))
 
 REQUEST = 0x84              # the first byte of every NVMe-MI message with an integrity check
 HEADER = 4                  # bytes of a packet's header, and of a message's
@@ -32,13 +34,14 @@ class Event:
     ticket, taken_at   what a take gave or a complete used, and the record of its take
     message            a whole message whose check is wrong
     at_once            the body that answered a command on entering Process
+    replays            by slot, the record of the last Replay with CPSR 1 since the slot's last command
     eid                the endpoint's own; not_taken: what is said of a ticket that no take gave
     """
 
     eid, not_taken = 8, "since none was taken there"
 
-    def __init__(self, record, line, before):
-        self.record, self.line, self.before, self.after = record, line, before, before
+    def __init__(self, record, line, before, replays):
+        self.record, self.line, self.before, self.after, self.replays = record, line, before, before, dict(replays)
         self.number, self.tag, self.body = record.number, record.tag, record.body
         self.answer, self.sent = read_line(record.tag, line)
         self.expected = None
@@ -89,15 +92,17 @@ class Follower:
         self.view = self.look()
         self.waiting = None                     # the primitive whose reply waits
         self.taken_at = {}                      # by slot, the record of the last take that gave a ticket
+        self.replays = {}                       # as an event has them
 
     def look(self):
         endpoint = self.endpoint
         return View(tuple(endpoint.jobs), (endpoint.state(0), endpoint.state(1)), endpoint.paused,
-                    (endpoint.flags_word(0), endpoint.flags_word(1)), tuple(endpoint.counts), endpoint.reply)
+                    (endpoint.flags_word(0), endpoint.flags_word(1)), tuple(endpoint.counts), endpoint.reply,
+                    (endpoint.held(0), endpoint.held(1)))
 
     def event(self, record, line):
         """Lets the second program do what the record says."""
-        event = Event(record, line, self.view)
+        event = Event(record, line, self.view, self.replays)
         if record.tag is None:
             event.expected = "bad"
             return event
@@ -124,6 +129,8 @@ class Follower:
         event.slots = only(event.named)
         if event.expected in WHOLE:
             getattr(self, WHOLE[event.expected])(event)
+        if event.expected == "1":
+            self.replays.pop(event.named, None)
 
     def entered(self, event):
         """A command entered Process; where a test failed, its response is there already."""
@@ -143,7 +150,9 @@ class Follower:
         event.replaced = self.waiting
         body = event.after.reply[1][HEADER:-HEADER]
         event.primitive = self.waiting = Primitive(event.number, request.opcode, event.head.csi, event.who, request.tag,
-                                                   request.cpsp, body)
+                                                   request.cpsp, body, event.after)
+        if sends_again(event.primitive):
+            self.replays[event.named] = event.number
         if request.opcode in (PAUSE, RESUME):                   # "CSI is ignored by both"
             event.slots = frozenset((0, 1))
 
@@ -200,6 +209,11 @@ def moved(event):
                      if before.states[slot] != after.states[slot] or (before.paused ^ after.paused) >> slot & 1)
 
 
+def sends_again(primitive):
+    """Whether a primitive is a Replay with CPSR 1, so that its slot sends again."""
+    return primitive.opcode == REPLAY and primitive.body == success(primitive.tag, 1)
+
+
 def is_paused(view, slot):
     return bool(view.paused >> slot & 1)
 
@@ -207,6 +221,14 @@ def is_paused(view, slot):
 def left_for_idle(event, slot):
     """Whether what the slot held was given up at this record, also if it began anew within it."""
     return event.before.states[slot] != "Idle" and (event.after.states[slot] == "Idle" or event.ended == slot)
+
+
+def is_lost(event, slot):
+    """Whether the slot's last response, which was held or sent again before the record, is neither after it."""
+    before, after = event.before, event.after
+    was_there = before.held[slot] or slot in event.replays and before.states[slot] == "Transmit"
+    is_there = after.held[slot] or after.states[slot] == "Transmit" and before.counts[slot] == after.counts[slot]
+    return bool(was_there) and not is_there
 
 
 def packets_of(job):

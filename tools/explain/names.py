@@ -1,6 +1,6 @@
 """Tables: what each number of the document is called, in words."""
 from second.log import COMPLETE, PACKET, POLL, RESET, TAKE, TIMEOUT
-from second.wire import ABORT, ADMIN, CONTROL, GET_STATE, MI, PAUSE, PCIE, RESUME
+from second.wire import ABORT, ADMIN, CONTROL, GET_STATE, MI, PAUSE, PCIE, REPLAY, RESUME
 
 KINDS = {PACKET: "packet", POLL: "poll", TIMEOUT: "timeout", TAKE: "take", COMPLETE: "complete", RESET: "reset"}
 
@@ -73,7 +73,7 @@ STATES = {
 }
 
 MESSAGES = {CONTROL: "control primitive", MI: "MI command", ADMIN: "Admin command", PCIE: "PCIe command"}
-PRIMITIVES = {PAUSE: "Pause", RESUME: "Resume", ABORT: "Abort", GET_STATE: "Get State"}
+PRIMITIVES = {PAUSE: "Pause", RESUME: "Resume", ABORT: "Abort", GET_STATE: "Get State", REPLAY: "Replay"}
 
 # Opcodes of commands. The endpoint passes them on without a look; these names are those of NVMe-MI 1.2 and NVM Express.
 OPCODES = {
@@ -111,13 +111,14 @@ ABORTED = {
 }
 
 
-def field_at(byte, bit):
-    """The field of a request that an error place names."""
+def field_at(byte, bit, nmimt=None):
+    """The field of a request that an error place names; what is behind the opcode goes by the request's kind."""
     if byte == 1:
         return {7: "ROR", 0: "CSI"}.get(bit, "NMIMT" if 3 <= bit <= 6 else "reserved")
     if byte == 2:
         return {0: "MEB", 1: "CIAP"}.get(bit, "reserved")
-    return {0: "IC and message type", 3: "reserved", 4: "opcode"}.get(byte, "behind the opcode")
+    behind = {5: "TAG", 6: "CPSP", 7: "CPSP"} if nmimt == CONTROL else {}
+    return {0: "IC and message type", 3: "reserved", 4: "opcode", **behind}.get(byte, "behind the opcode")
 
 
 def number(value):

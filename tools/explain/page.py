@@ -9,7 +9,7 @@ import pathlib
 from second.log import COMPLETE, PACKET, POLL, RESET, TAKE, TIMEOUT
 from second.wire import CONTROL, PAUSE, RESUME
 
-from .following import is_paused, moved
+from .following import is_paused
 from .names import KINDS, REFUSALS, STATES, count, number
 from .wording import answer_words, effect_words, message_words, record_words, reply_words, slots_words
 
@@ -17,8 +17,9 @@ HERE = pathlib.Path(__file__).parent
 ROWS = 100                  # rows of a section
 
 # How a slot's bar looks: class and letter
-BARS = {"Idle": ("idle", ""), "Receive": ("receive", "R"), "Process untaken": ("process", "P"), "Process taken": ("taken", "D"),
-        "Process answered": ("held", "H"), "Transmit": ("transmit", "T")}
+HOLDING = "Idle, holds its last response"
+BARS = {"Idle": ("idle", ""), HOLDING: ("holding", ""), "Receive": ("receive", "R"), "Process untaken": ("process", "P"),
+        "Process taken": ("taken", "D"), "Process answered": ("held", "H"), "Transmit": ("transmit", "T")}
 STATE_NOTES = {"Process taken": " (the drive has it)", "Process answered": " (held back by its pause flag)"}
 LETTER_EACH = 10            # rows after which a bar has its letter again
 
@@ -198,11 +199,11 @@ def bars(event, lettered):
 
 def changed(event, slot):
     """Whether the slot's bar looks otherwise after the record, or what it stands for began anew."""
-    return slot in moved(event) or event.ended == slot
+    return bar(event.before, slot, "", True) != bar(event.after, slot, "", True) or event.ended == slot
 
 
 def bar(view, slot, half, lettered):
-    name, letter = BARS[view.states[slot]]
+    name, letter = BARS[HOLDING if view.held[slot] else view.states[slot]]
     shown = f"<b>{letter}</b>" if lettered and letter else ""
     return f'<i class="s{slot} {name}{" paused" if is_paused(view, slot) else ""}{half}">{shown}</i>'
 
@@ -247,7 +248,7 @@ CHOICES = {"no-quiet": "without polls that found nothing", "only-refused": "only
 
 
 def legend():
-    states = "".join(f'<span><i class="{name}"><b>{letter}</b></i>{STATES[state]}{STATE_NOTES.get(state, "")}</span>'
+    states = "".join(f'<span><i class="{name}"><b>{letter}</b></i>{STATES.get(state, state)}{STATE_NOTES.get(state, "")}</span>'
                      for state, (name, letter) in BARS.items())
     drawn = "".join(f'<span><svg class="{look}" viewBox="0 0 56 22">{shown}</svg>{words}</span>' for look, shown, words in (
         ("", dot(4) + line(4, 42) + head(50, 1), "packet, take or completion"),
@@ -322,6 +323,11 @@ SLOT_ROWS = {
     "assemblies dropped by a refusal": "assemblies_ended dropped",
     "assemblies aborted": "assemblies_ended aborted",
     "assemblies ended by a reset": "assemblies_ended reset",
+    "Replays": "replays asked",
+    "replays begun": "replays begun",
+    "replays sent to the last packet": "replays sent",
+    "replays aborted": "replays aborted",
+    "replays ended by a reset": "replays reset",
 }
 
 
@@ -334,6 +340,9 @@ def slot_rows(summary):
         if any(values):
             yield slot_row(name, *map(number, values))
     yield slot_row("at the end", *(STATES[slot["state"]] for slot in found))
+    held = [slot["held"] for slot in found]
+    if any(held):
+        yield slot_row("last response still held", *(count(each["bytes"], "byte") if each else "nothing" for each in held))
 
 
 def slot_row(name, *values):

@@ -2,15 +2,19 @@
 from collections import Counter
 
 from second.log import COMPLETE, PACKET, POLL, RESET, TIMEOUT
-from second.wire import ABORT
+from second.wire import ABORT, REPLAY
 
-from .following import left_for_idle
+from .following import left_for_idle, sends_again
 from .names import DONE, KINDS, PRIMITIVES, REFUSALS, STATES, count, flags_set, listed, number
+from .wording import held_words
 
-# What can become of a command, or of an assembly that was never whole; the first table's names are for JSON
+# What can become of a command, of an assembly that was never whole, or of a replay; the names are for JSON
 COMMAND_ENDS = {"sent": "answered, the last packet went", "aborted": "aborted", "reset": "ended by a reset"}
 ASSEMBLY_ENDS = {"timed_out": "timed out", "started_anew": "ended by a first packet under the same source and tag",
                  "dropped": "dropped by a refusal", "aborted": "aborted", "reset": "ended by a reset"}
+REPLAY_ENDS = {**COMMAND_ENDS, "sent": "sent to the last packet"}
+ENDS = {"command": ("commands", COMMAND_ENDS), "assembly": ("assemblies that never were whole", ASSEMBLY_ENDS),
+        "replay": ("replays", REPLAY_ENDS)}
 ANSWERED = ("Process answered", "Transmit")         # states of a slot whose response is there
 
 
@@ -18,8 +22,8 @@ class Slot:
     """What became of one slot's commands."""
 
     def __init__(self):
-        self.commands = self.completed = self.at_once = 0
-        self.ends = {"command": Counter(), "assembly": Counter()}
+        self.commands = self.completed = self.at_once = self.replays_asked = self.replays_begun = 0
+        self.ends = {"command": Counter(), "assembly": Counter(), "replay": Counter()}
         self.since = None                   # the record at which the slot went to the state it has
         self.answered_at = None             # the record at which its response was fixed
 
@@ -95,6 +99,9 @@ class Summary:
             self.slots[event.named].at_once += event.at_once is not None
         if event.tag == COMPLETE and event.expected == "0":
             self.slots[event.named].completed += 1
+        if event.tag == PACKET and event.primitive and event.primitive.opcode == REPLAY:
+            self.slots[event.named].replays_asked += 1
+            self.slots[event.named].replays_begun += sends_again(event.primitive)
         for index, slot in enumerate(self.slots):
             if left_for_idle(event, index):
                 self.ended(event, index, slot)
@@ -105,10 +112,10 @@ class Summary:
         self.follow_pause(event)
 
     def ended(self, event, index, slot):
-        kind = "assembly" if event.before.states[index] == "Receive" else "command"
+        kind = "assembly" if event.before.states[index] == "Receive" else "replay" if index in event.replays else "command"
         end = self.cause(event, index)
         slot.ends[kind][end] += 1
-        if end == "sent":
+        if (kind, end) == ("command", "sent"):
             wait = event.number - slot.answered_at
             if self.longest_wait is None or wait > self.longest_wait[0]:
                 self.longest_wait = wait, index, event.before.counts[index], slot.answered_at, event.number
@@ -150,6 +157,9 @@ class Summary:
     def state(self, index):
         return self.view.states[index] if self.view else "Idle"
 
+    def held(self, index):
+        return self.view.held[index] if self.view else None
+
     def answer_rows(self):
         """Kind, answer, words, how often, and the first record, in order."""
         for (tag, answer), times in sorted(self.answers.items(), key=lambda item: (item[0][0], item[0][1] or 0)):
@@ -182,6 +192,11 @@ class Summary:
             for end, times in slot.ends["assembly"].items():
                 if end != "dropped":
                     yield f"slot {index}: {count(times, 'assembly', 'assemblies')} {ASSEMBLY_ENDS[end]}"
+            for end, times in slot.ends["replay"].items():
+                if end != "sent":
+                    yield f"slot {index}: {count(times, 'replay')} {REPLAY_ENDS[end]}"
+            if slot.replays_asked > slot.replays_begun:
+                yield f"slot {index}: {count(slot.replays_asked - slot.replays_begun, 'Replay')} sent nothing (CPSR 0 or an error)"
 
     def leftovers(self):
         """What is still there when the log ends."""
@@ -223,7 +238,9 @@ class Summary:
         return {"slot": index, "commands": slot.commands, "completed": slot.completed, "answered_at_once": slot.at_once,
                 "ended": {name: slot.ends["command"][name] for name in COMMAND_ENDS},
                 "assemblies_ended": {name: slot.ends["assembly"][name] for name in ASSEMBLY_ENDS},
-                "state": self.state(index)}
+                "replays": {"asked": slot.replays_asked, "begun": slot.replays_begun,
+                            **{name: slot.ends["replay"][name] for name in REPLAY_ENDS}},
+                "state": self.state(index), "held": held_data(self.held(index))}
 
     def words(self):
         """The summary as lines of text."""
@@ -264,14 +281,14 @@ class Summary:
                    f"{number(seen['out'])} went back")
 
     def slot_lines(self, index):
-        slot = self.slots[index]
-        yield f"Slot {index}, now {STATES[self.state(index)]}"
+        slot, held = self.slots[index], self.held(index)
+        yield f"Slot {index}, now {STATES[self.state(index)]}{f', {held_words(held)}' if held else ''}"
         yield (f"  {count(slot.commands, 'command')} entered Process: {number(slot.completed)} completed by the drive, "
                f"{number(slot.at_once)} answered at once with an error")
-        for kind, names in (("command", COMMAND_ENDS), ("assembly", ASSEMBLY_ENDS)):
+        for kind, (title, names) in ENDS.items():
             ends = [f"{number(slot.ends[kind][name])} {words}" for name, words in names.items() if slot.ends[kind][name]]
             if ends:
-                yield f"  {'commands' if kind == 'command' else 'assemblies that never were whole'}: {', '.join(ends)}"
+                yield f"  {title}: {', '.join(ends)}"
 
     def wait_words(self):
         if self.longest_wait:
@@ -280,6 +297,11 @@ class Summary:
                    f"(slot {slot}, ticket {number(ticket)}, records {start} to {end})")
         if self.longest_pause:
             yield "Longest pause: {} (records {} to {})".format(count(self.longest_pause[0], "record"), *self.longest_pause[1:])
+
+
+def held_data(held):
+    """A held response for machines."""
+    return held and {"eid": held.who[0], "tag": held.who[1], "bytes": held.length}
 
 
 def named(values, names):

@@ -7,6 +7,7 @@ from second.wire import CONTROL
 
 from .following import HEADER, is_paused, packets_of
 from .names import KINDS, number
+from .summary import held_data
 from .wording import answer_words, effect_words, record_words, slots_words
 
 INDENT = " " * 8
@@ -103,14 +104,15 @@ def sent_of(event):
         return None
     control = bool(event.head and event.head.nmimt == CONTROL)
     return {**packet_data(event.sent, event.fields), "slot": event.named, "control": control,
-            "request": event.primitive.record if control and event.primitive else None}
+            "request": event.primitive.record if control and event.primitive else None,
+            "replay": None if control else event.replays.get(event.named)}
 
 
 def slot_of(view, slot):
     job = view.jobs[slot]
     who = getattr(job, "who", None)
     found = {"slot": slot, "state": view.states[slot], "paused": is_paused(view, slot), "ticket": view.counts[slot],
-             "eid": who and who[0], "tag": who and who[1], "get_state": view.words[slot]}
+             "eid": who and who[0], "tag": who and who[1], "get_state": view.words[slot], "held": held_data(view.held[slot])}
     if isinstance(job, Receive):
         found["gathered"] = job.length
     if isinstance(job, (Answered, Transmit)):

@@ -1,9 +1,9 @@
 """An event in words: the record, its answer with the ground, what else it did, and the slots afterwards."""
 from second.endpoint import Answered, Receive, Transmit
 from second.log import COMPLETE, PACKET, POLL, RESET, TAKE, TIMEOUT
-from second.wire import ABORT, CONTROL, GET_STATE, PAUSE, PAYLOAD, RESUME, crc32c
+from second.wire import ABORT, CONTROL, GET_STATE, PAUSE, PAYLOAD, REPLAY, RESUME, crc32c, error
 
-from .following import HEADER, REQUEST, is_paused, left_for_idle, packets_of
+from .following import HEADER, REQUEST, is_lost, is_paused, left_for_idle, packets_of
 from .names import (ABORTED, DONE, FLAGS, INVALID_PARAMETER, KINDS, MESSAGES, OPCODES, PRIMITIVES, REFUSAL_FLAG, REFUSALS,
                     STATE_NAMES, STATES, STATUS, count, field_at, flags_set, listed, number)
 
@@ -21,8 +21,8 @@ def record_words(event):
     return [{POLL: "poll", TIMEOUT: "timeout of slot {}", TAKE: "take of slot {}", RESET: "reset"}[event.tag].format(event.named)]
 
 
-def status_given(body):
-    return f", status {status_words(body)}" if len(body) >= 4 else ""
+def status_given(body, nmimt=None):
+    return f", status {status_words(body, nmimt)}" if len(body) >= 4 else ""
 
 
 def packet_words(packet, fields):
@@ -144,7 +144,8 @@ def silence_words(event, plain):
     kept = [f"slot {slot}" for slot in (0, 1) if isinstance(view.jobs[slot], (Answered, Transmit))]
     if kept:
         return f"{plain}, because {flags_set(view.paused)}: the response of {listed(kept)} waits for Resume"
-    return f"{plain}: no control reply waits, and no slot has a response" + (f" ({flags_set(view.paused)})" if view.paused else "")
+    none = "is in Transmit" if any(view.held) else "has a response"
+    return f"{plain}: no control reply waits, and no slot {none}" + (f" ({flags_set(view.paused)})" if view.paused else "")
 
 
 # Grounds of a refusal, from the packet and the slots before it
@@ -238,13 +239,13 @@ GROUNDS = {
 
 # What goes out
 
-def status_words(body):
-    """Status and, for an invalid parameter, the error place: body is a response's from byte 4 on."""
+def status_words(body, nmimt=None):
+    """Status and, for an invalid parameter, the error place: body is a response's from byte 4 on, nmimt its kind."""
     name = STATUS.get(body[0])
     words = f"{body[0]:02x}h{f' ({name})' if name else ''}"
     if body[0] == INVALID_PARAMETER:
         byte, bit = body[2] | body[3] << 8, body[1] & 7
-        words += f" at byte {byte} bit {bit}, {field_at(byte, bit)}"
+        words += f" at byte {byte} bit {bit}, {field_at(byte, bit, nmimt)}"
     return words
 
 
@@ -257,10 +258,11 @@ def sent_words(event):
         return f"the reply to {primitive_name(asked)} of record {asked.record}: {reply_words(asked)}"
     packets, sent = packets_of(event.before.jobs[event.named])
     part = f"packet {sent + 1} of {packets} of "
+    again = f", sent again by the Replay of record {event.replays[event.named]}" if event.named in event.replays else ""
     if not event.fields.som:
-        return f"{part}the response of slot {event.named}"
+        return f"{part}the response of slot {event.named}{again}"
     kind = MESSAGES.get(event.head.nmimt, f"command of unknown kind (NMIMT {event.head.nmimt})")
-    return f"{part}the response of slot {event.named} to its {kind}, status {status_words(event.payload[HEADER:])}"
+    return f"{part}the response of slot {event.named} to its {kind}, status {status_words(event.payload[HEADER:])}{again}"
 
 
 def primitive_name(primitive):
@@ -270,19 +272,41 @@ def primitive_name(primitive):
     return f"{PRIMITIVES.get(primitive.opcode, f'control primitive {primitive.opcode:02x}h')} for slot {primitive.slot}"
 
 
+WRONG_CPSP = REPLAY, error(INVALID_PARAMETER, byte=6, bit=0)
+
+
 def reply_words(primitive):
     """What the reply to a control primitive says."""
     if primitive.body[0]:
-        return f"error {status_words(primitive.body)}; it did not act"
-    return f"TAG {primitive.body[1]:02x}h, CPSR {cpsr_words(primitive.opcode, primitive.body[2] | primitive.body[3] << 8)}"
+        ground = ": Replay takes only CPSP 0" if (primitive.opcode, primitive.body) == WRONG_CPSP else ""
+        return f"error {status_words(primitive.body, CONTROL)}{ground}; it did not act"
+    return f"TAG {primitive.body[1]:02x}h, CPSR {cpsr_words(primitive, primitive.body[2] | primitive.body[3] << 8)}"
 
 
-def cpsr_words(opcode, cpsr):
-    if opcode == GET_STATE:
+def cpsr_words(primitive, cpsr):
+    if primitive.opcode == GET_STATE:
         return f"{cpsr:04x}h: {state_word_words(cpsr)}"
-    if opcode == ABORT:
+    if primitive.opcode == ABORT:
         return f"{cpsr}: {ABORTED.get(cpsr, 'an unknown value')}"
+    if primitive.opcode == REPLAY:
+        return f"{cpsr}: {replay_words(primitive, cpsr)}"
     return f"{cpsr}: {flags_set(cpsr)}"
+
+
+def replay_words(primitive, cpsr):
+    """What Replay's CPSR says, and what is known of the slot: which response it sends again, or why it sends none."""
+    view, slot = primitive.after, primitive.slot
+    if cpsr == 1:
+        return "the slot sends its last response again" + (f", {response_words(view.jobs[slot])}" if view else "")
+    if cpsr > 1:
+        return "an unknown value"
+    if view is None:
+        ground = "was not Idle or held no response"
+    elif view.states[slot] == "Idle":
+        ground = "held no response"
+    else:
+        ground = f"was not Idle but in {STATES[view.states[slot]]}"
+    return f"nothing happened, since the slot {ground}"
 
 
 def state_word_words(word):
@@ -354,12 +378,17 @@ def pause_words(event):
 
 
 def move_words(event):
-    """Slots that went to another state."""
+    """Slots that went to another state, or hold their last response no longer."""
     before, after = event.before, event.after
     for slot in (0, 1):
+        words = []
         if before.states[slot] != after.states[slot] and event.ended != slot:
             dropped = dropped_words(before.jobs[slot]) if left_for_idle(event, slot) and event.tag != POLL else ""
-            yield f"slot {slot} goes from {STATES[before.states[slot]]} to {STATES[after.states[slot]]}{dropped}"
+            words.append(f"goes from {STATES[before.states[slot]]} to {STATES[after.states[slot]]}{dropped}")
+        if is_lost(event, slot):
+            words.append("loses its last response")
+        if words:
+            yield f"slot {slot} {' and '.join(words)}"
 
 
 def dropped_words(job):
@@ -376,11 +405,23 @@ def slot_words(view, slot):
     elif isinstance(job, (Answered, Transmit)):
         packets, sent = packets_of(job)
         words.append(f"{sent} of {packets} packets sent to EID {job.who[0]} under tag {job.who[1]}")
+    elif view.held[slot]:
+        words.append(held_words(view.held[slot]))
     elif view.states[slot] != "Idle":
         words.append(f"{count(job.length, 'byte')} from EID {job.who[0]} under tag {job.who[1]}")
     if is_paused(view, slot):
         words.append("paused")
     return ", ".join(words + [f"ticket {number(view.counts[slot])}"])
+
+
+def held_words(held):
+    """The response that an Idle slot still holds."""
+    return f"holds its last response ({response_words(held)})"
+
+
+def response_words(response):
+    """A response's length, and whom it is for."""
+    return f"{count(response.length, 'byte')} to EID {response.who[0]} under tag {response.who[1]}"
 
 
 def slots_words(view):

@@ -1,12 +1,13 @@
 """Commands and control primitives: the options of their lines, and the packets that carry them."""
 from records import FULL, command, control, damaged, packet
-from second.wire import ABORT, ADMIN, GET_STATE, MI, PAUSE, PCIE, RESUME
+from second.wire import ABORT, ADMIN, GET_STATE, MI, PAUSE, PCIE, REPLAY, RESUME
 
 from .forms import option, read_options
 from .values import LineError, number_of
 
 KINDS = {"mi": MI, "admin": ADMIN, "pcie": PCIE}
-PRIMITIVES = {"pause": PAUSE, "resume": RESUME, "abort": ABORT, "get-state": GET_STATE}
+PRIMITIVES = {"pause": PAUSE, "resume": RESUME, "abort": ABORT, "get-state": GET_STATE, "replay": REPLAY}
+ANY_PRIMITIVE = "|".join((*PRIMITIVES, "OPCODE"))         # in the usage of a line
 LONGEST_COMMAND = 8192
 
 # What a packet carries; both kinds of lines have these
@@ -47,7 +48,7 @@ COMMAND_OPTIONS = {
 CONTROL_OPTIONS = {
     **MESSAGE_OPTIONS,
     "tag": option("TAG of the control primitive (0 if not given)", ("a TAG", 0, 255)),
-    "cpsp": option("CPSP", ("a CPSP", 0, 0xFFFF)),
+    "cpsp": option("CPSP (0 if not given; Replay takes only 0)", ("a CPSP", 0, 0xFFFF)),
     "clear": option("CPSP bit 0 set: Get State clears the flags after reporting"),
     "ror": option("ROR 1: a response and no request"),
     **PACKET_OPTIONS,

@@ -60,7 +60,7 @@ def response_words(event, head):
     body = payload[HEADER:-HEADER] if eom else payload[HEADER:]
     kind = MESSAGES.get(head.nmimt, f"command of unknown kind (NMIMT {head.nmimt})")
     name = "control reply" if head.nmimt == CONTROL else f"response to the {kind}"
-    return f"{name} of slot {head.csi}{status_given(body)}, {size_words(len(payload), eom)}"
+    return f"{name} of slot {head.csi}{status_given(body, head.nmimt)}, {size_words(len(payload), eom)}"
 
 
 def cut_called(event):
@@ -255,7 +255,7 @@ def reply_line(asked, body):
         said = reply_words(asked._replace(body=body))
         return f"the reply to {primitive_name(asked)} of record {asked.record}: {said}"
     if body[0]:
-        return f"it says error {status_words(body)}"
+        return f"it says error {status_words(body, CONTROL)}"
     return f"it says TAG {body[1]:02x}h, CPSR {body[2] | body[3] << 8:04x}h"
 
 

@@ -142,7 +142,7 @@ REQUESTER = dict((
     word("requester cut [slot N] mi|admin|pcie LENGTH [OPTION ..]",
          "cuts a whole command, sealed with its integrity check; deliver endpoint hands its packets on",
          read_cut, CUT_OPTIONS),
-    word("requester primitive pause|resume|abort|get-state|OPCODE [slot N] [tag TAG] [OPTION ..]",
+    word(f"requester primitive {messages.ANY_PRIMITIVE} [slot N] [tag TAG] [OPTION ..]",
          "builds a control primitive in its packet; deliver endpoint hands it on",
          read_primitive, PRIMITIVE_OPTIONS),
     word("requester packet BYTES",

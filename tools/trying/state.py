@@ -1,7 +1,7 @@
 """What a look shows, held in an endpoint of the second program, which is only looked at: no call is made on it."""
 from collections import namedtuple
 
-from second.endpoint import IDLE, SLOT_BIT, Answered, Endpoint, Process, Receive, Transmit
+from second.endpoint import IDLE, SLOT_BIT, Answered, Endpoint, Held, Idle, Process, Receive, Transmit
 from second.wire import MessageHeader
 
 from .program import Trouble
@@ -9,9 +9,18 @@ from .program import Trouble
 # fields: the words of the line by their names
 State = namedtuple("State", "fields endpoint")
 
+
+def read_idle(*last):
+    """Idle, with the last response if it is still held: requester, tag, length."""
+    if not last:
+        return IDLE
+    requester, tag, length = last
+    return Idle(Held((requester, tag), length))
+
+
 # What a slot holds, by the first word of its phase
 PHASES = {
-    "idle": lambda *_: IDLE,
+    "idle": read_idle,
     "receive": lambda source, tag, sequence, length: Receive((source, tag), None, sequence, length),
     "process": lambda source, tag, nmimt, length, taking: Process((source, tag), MessageHeader(0, nmimt, 0, 0, 0), length,
                                                                   taking != "untaken"),

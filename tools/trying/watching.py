@@ -1,10 +1,10 @@
 """A call as an event of the explaining tool: the answer, and the slots before and after, as looks show them."""
 from collections import namedtuple
 
-from explain.following import HEADER, Event, Follower
+from explain.following import HEADER, Event, Follower, sends_again
 from second import calls, log
 from second.endpoint import Answered, Process, Receive, Transmit
-from second.wire import CONTROL, packet_fields
+from second.wire import CONTROL, REPLAY, packet_fields
 
 from .program import Trouble
 from .state import read_state
@@ -48,6 +48,7 @@ class Watcher(Follower):
         """What was known of messages and tickets is of another state."""
         self.waiting = None                     # the primitive whose reply waits
         self.taken_at, self.given = {}, {}      # by slot and ticket, the take that gave it; by slot, the ticket last given
+        self.replays = {}                       # by slot, the record of a Replay, as an event has them
         self.gathered = [b"", b""]              # the bytes of the command that each slot gathers
 
     @property
@@ -63,7 +64,7 @@ class Watcher(Follower):
         kind = KINDS[call.tag]
         slot, rest = slot_and_rest(call.tag, call.body)
         body = call.body if kind == log.PACKET else bytes((slot & 0xFF,)) + rest
-        event = Event(Record(number, kind, body), as_in_a_log(call.tag, line), self.view)
+        event = Event(Record(number, kind, body), as_in_a_log(call.tag, line), self.view, self.replays)
         event.expected, event.eid, event.not_taken = event.line, self.endpoint.eid, "which no take of that slot gave"
         self.look_at(look)
         event.after = self.view
@@ -80,6 +81,8 @@ class Watcher(Follower):
             raise Trouble(f"record {number}: {line!r} is no line for this call")
         if not fits(event):
             event.expected = None
+            if kind == log.PACKET and event.primitive:
+                self.waiting = event.primitive._replace(after=None)
         return event
 
     def on_slot(self, event, slot):
@@ -126,10 +129,20 @@ def fits(event):
     if kind in HELD:
         return event.named in (0, 1) and isinstance(event.after.jobs[event.named], HELD[kind])
     if kind == (log.PACKET, 2):
-        return event.primitive is not None
+        return event.primitive is not None and replay_fits(event)
     if kind == (log.POLL, 1) and not (event.head and event.head.nmimt == CONTROL):
         return event.named is not None and isinstance(event.before.jobs[event.named], Transmit)
     return True
+
+
+def replay_fits(event):
+    """Whether a Replay's reply goes with its slot: CPSR 1 if that held a response and now sends it, else CPSR 0."""
+    primitive, slot = event.primitive, event.primitive.slot
+    if primitive.opcode != REPLAY or primitive.body[0]:
+        return True
+    if sends_again(primitive):
+        return event.before.held[slot] is not None and isinstance(event.after.jobs[slot], Transmit)
+    return event.before.held[slot] is None
 
 
 WATCHED = {log.PACKET: "packet", log.POLL: "poll", log.RESET: "reset"}

@@ -159,7 +159,7 @@ WORDS = {
     "command": Word("command [slot N] mi|admin|pcie LENGTH [OPTION ..]",
                     "a whole command, sealed with its integrity check and cut into packets, each of them received",
                     read_message(messages.read_command), messages.COMMAND_OPTIONS),
-    "control": Word("control pause|resume|abort|get-state|OPCODE [slot N] [tag TAG] [OPTION ..]",
+    "control": Word(f"control {messages.ANY_PRIMITIVE} [slot N] [tag TAG] [OPTION ..]",
                     "a control primitive in its packet", read_message(messages.read_control), messages.CONTROL_OPTIONS),
     "packet": Word("packet BYTES", "one packet as it is, as in: packet 01 08 09 c9 84 zeros 64", read_packet),
     "take": Word("take SLOT", "takes the command that waits there: answers a ticket", on_slot(call_records.take)),

@@ -1,6 +1,7 @@
 // Prints what no script of calls can show: the published CRC-32C values, and a ticket count that goes back to 0.
 ghost use Rattle.machine.specs.Valid.{Valid};
 use machine::Endpoint;
+use machine::Held;
 use machine::Phase;
 use machine::Slot;
 use machine::TakeAnswer;
@@ -60,7 +61,7 @@ fn before_wrap() -> Endpoint
         ticket: Ticket(LAST_TICKET),
         paused: false,
         busy: false,
-        phase: Phase::Idle,
+        phase: Phase::Idle(Held::NoResponse),
     };
     anew
 }

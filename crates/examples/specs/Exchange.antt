@@ -32,7 +32,7 @@ use Rattle.round_trip.specs.Response.{handedOut, sentUntil, isUnsent}
 use Rattle.examples.specs.Examples.{polling, answer}
 use Rattle.examples.specs.Runs.{zeros, seen}
 
-abbrev controller : Requester
+abbrev pub controller : Requester
 controller = requester 9 Nothing
 
 -- it awaits EID 8 under tag 1
@@ -42,7 +42,7 @@ awaiting = side (requester 9 (Awaited (key 8 1))) zeros
 abbrev said : ℕ × List ℕ → List ℕ
 said x = x .0 ∷ x .1
 
-abbrev yes : Bool → List ℕ
+abbrev pub yes : Bool → List ℕ
 yes true = 1 ∷ []
 yes false = 0 ∷ []
 
@@ -82,16 +82,17 @@ command-came = refl
 
 -- ---- back: its response with a body of 61 zeros
 
-abbrev first-back : List ℕ
+abbrev pub first-back : List ℕ
 first-back = 1 ∷ 9 ∷ 8 ∷ 0x81 ∷ 0x84 ∷ 0x91 ∷ replicate 62 0
 
-abbrev second-back : List ℕ
+abbrev pub second-back : List ℕ
 second-back = 1 ∷ 9 ∷ 8 ∷ 0x51 ∷ 0 ∷ 0x6E ∷ 0x4D ∷ 0x9C ∷ 0xBB ∷ []
 
-pub answered : History
+unfoldable pub answered : History
+unfolding run start
 answered = run (received-calls ++ (take! 1 ∷ complete 1 (ticket 1) (replicate 61 0) ∷ [])) (start 8 zeros zeros)
 
-abbrev polls : List Call
+abbrev pub polls : List Call
 polls = polling ∷ polling ∷ polling ∷ []
 
 -- it is in Transmit, no packet of it went, and the last goes with the second poll

@@ -3,3 +3,4 @@ pub mod Runs
 pub mod Premises
 pub mod Replies
 pub mod Exchange
+pub mod Replay

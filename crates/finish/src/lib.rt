@@ -71,7 +71,7 @@ fn is_receive(phase: Phase) -> bool
     ensures { λ r. ⌜ r ≡ isReceive phase ⌝ }
 {
     match phase {
-        Phase::Idle => false,
+        Phase::Idle(_) => false,
         Phase::Receive(_) => true,
         Phase::Process(_) => false,
         Phase::Answered(_) => false,

@@ -2,7 +2,7 @@
 -- Assumes nothing.
 use Prim.Native.Nat.{ℕ}
 use mathlib.Core.Path.{_≡_, refl}
-use mathlib.Core.Bool.{Bool, true, false, _&&_, _||_}
+use mathlib.Core.Bool.{Bool, true, false, not, _&&_, _||_}
 use native.Mathlib.Omega.{arith}
 use Rattle.lent.specs.Choice.{if_then_else_}
 
@@ -37,6 +37,14 @@ and-both false b e = false-true e
 
 pub both-and : (a b : Bool) → a ≡ true → b ≡ true → (a && b) ≡ true
 both-and a b p q = rw (p, q) refl
+
+pub and-false : (b : Bool) → (b && false) ≡ false
+and-false true = refl
+and-false false = refl
+
+pub not-and : (b : Bool) → (not b && b) ≡ false
+not-and true = refl
+not-and false = refl
 
 -- two choices side by side, whose tests are equal: what relates their answers relates the choices
 pub row {ℓ κ μ} : {A : Type ℓ} {B : Type κ} (R : A → B → Type μ) (b c : Bool) {x y : A} {u v : B} → b ≡ c → (c ≡ true → R x u) → (c ≡ false → R y v)

@@ -135,7 +135,7 @@ pub there-by : (i : ℕ) → i ≤ 1 → (h : History) → Good h → isEarly (p
 there-by i is h g late some = by (phaseAt (h .world) i) refl late
   where
     by : (p : Phase) → phaseAt (h .world) i ≡ p → isEarly p ≡ false → There p
-    by Idle t n = false-true (sym n)
+    by (Idle held) t n = false-true (sym n)
     by (Receive a) t n = false-true (sym n)
     by (Process r) t n = let k : Asked r (storeAt (h .world) i) (h .trace i) = rw t at (g .fits i is .phase-fits) in absurd (some (k .unfixed))
     by (Answered r) t n = waits r refl
@@ -144,7 +144,7 @@ there-by i is h g late some = by (phaseAt (h .world) i) refl late
 -- ---- a completion that is accepted
 
 pub process-early : {A : Type 0} (p : Phase) → isEarly p ≡ true → isProcess p ≡ true → A
-process-early Idle x a = false-true a
+process-early (Idle held) x a = false-true a
 process-early (Receive r) x a = false-true a
 process-early (Process r) x a = false-true x
 process-early (Answered r) x a = false-true x
@@ -155,7 +155,7 @@ late-steady : {C : Type 0} {p q : Phase} → Steady C p q → isProcess p ≡ tr
 late-steady {p = p} (same e) a n = rw e (process-late p a)
   where
     process-late : (p : Phase) → isProcess p ≡ true → isEarly p ≡ false
-    process-late Idle h = sym h
+    process-late (Idle held) h = sym h
     process-late (Receive a) h = sym h
     process-late (Process r) h = refl
     process-late (Answered r) h = refl
@@ -192,7 +192,7 @@ answer-arrives eid store0 store1 a b xs ys i is t body e =
 
 -- ---- an error at entry
 
-receive-uncounted : (h : History) (p : List ℕ) → next (receive p) h .counted ≡ h .counted
+pub receive-uncounted : (h : History) (p : List ℕ) → next (receive p) h .counted ≡ h .counted
 unfolding next
 receive-uncounted h p = omega arith
 

@@ -29,7 +29,7 @@ use Rattle.machine.specs.Demands.{isProcess}
 use Rattle.machine.specs.Commands.{RightCheck, Accepted, AcceptedRight, SameCommand, Stays, worked-on, answered, cut-off, CommandStays, TakenFirst, FixedOnce}
 use Rattle.machine.specs.Types.{Ticket, Taking, Untaken, Taken, Request, Outgoing, Phase, Idle, Receive, Process, Answered, Transmit, Slot}
 use Rattle.machine.proofs.Slots.{isEarly, facts-at}
-use Rattle.machine.proofs.Receiving.{Joining, filled, grown, whole, Ground, in-table, of-no-slot, Break, in-sequence, in-size, in-total, Walk, walked, right-stores}
+use Rattle.machine.proofs.Receiving.{Joining, filled, grown, whole, Ground, in-table, of-control, of-no-slot, Break, in-sequence, in-size, in-total, Walk, walked, right-stores}
 use Rattle.machine.proofs.Keeps.{slot-most, Chosen, chosen-at, step-sound}
 use Rattle.machine.proofs.Places.{Which, this, that, which, slot-that}
 use Rattle.machine.proofs.Fits.{takesOf, Asked, Fit, Entry, entered as came, stayed, Steady, same, newly, released, handed-over, worked, fell, There, settled-there, answered-not, some-response, atEntry, fixed-is}
@@ -56,6 +56,7 @@ module _ (w₀ : World) (p : List ℕ) (trace : ℕ → Trace) (s₀ : Sound w�
 
   ground-not : {A : Type 0} (n : ℕ) → Ground w₀ p n → n ≡ 1 → A
   ground-not n (in-table _ lo hi) e = absurd (omega arith)
+  ground-not _ (of-control _ _) e = absurd (omega arith)
   ground-not _ (of-no-slot _ _) e = absurd (omega arith)
 
   break-not : {A : Type 0} (n : ℕ) → Break w₀ p n → n ≡ 1 → A
@@ -147,7 +148,7 @@ completes-so w s i t body e =
     row is r Taken p u = if-ind Says (not (isBody body)) (λ _ q. absurd (omega arith)) (λ _ _. record { slot-is = is; request = r; in-process = p; taken-is = u })
 
     into : i ≤ 1 → (p : Phase) → phaseAt w i ≡ p → Says (completedIn w i t body p)
-    into is Idle p = λ q. absurd (omega arith)
+    into is (Idle held) p = λ q. absurd (omega arith)
     into is (Receive a) p = λ q. absurd (omega arith)
     into is (Process r) p = if-ind Says (not (isPresent t (slotAt (w .endpoint) i))) (λ _ q. absurd (omega arith)) (λ _. row is r (r .taking) p refl)
     into is (Answered r) p = λ q. absurd (omega arith)
@@ -182,7 +183,7 @@ part-is h g i is = by (phaseAt (h .world) i) refl
     row r Taken u p = let k = asked-at h g i is r p in rw (u, k .takes-are ∙ ap takesOf u) (k .held)
 
     by : (p : Phase) → phaseAt (h .world) i ≡ p → partOf (storeAt (h .world) i) p ≡ (if isProcess p && eqb (h .trace i .takes) 1 then h .trace i .request else [])
-    by Idle p = refl
+    by (Idle held) p = refl
     by (Receive a) p = refl
     by (Process r) p = row r (r .taking) refl p
     by (Answered r) p = refl

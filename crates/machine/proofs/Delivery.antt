@@ -13,7 +13,7 @@ use Rattle.lent.specs.Choice.{if_then_else_}
 use Rattle.lent.proofs.Choice.{if-ind, false-true, both-and, differ}
 use Rattle.mctp.specs.Cut.{packets}
 use Rattle.mctp.proofs.Laws.{packets-bounds, packets-most, packets-cover}
-use Rattle.machine.specs.State.{World, slotAt, storeAt, withSlot, withEndpoint, withPhase, replySent, packetSent, idled}
+use Rattle.machine.specs.State.{World, slotAt, storeAt, withSlot, withEndpoint, withPhase, replySent, packetSent, holding}
 use Rattle.machine.specs.Wire.{unit}
 use Rattle.machine.specs.Finish.{taken}
 use Rattle.machine.specs.Poll.{otherSlot, sendingOr, hasBegun, begunOr, chosen, isLast, advanced, afterPacket, controlPacket, commandPacket}
@@ -74,7 +74,7 @@ before-down false true n m t h = rw (h refl) (omega arith)
 before-down false false n m t h = omega arith
 
 left-most : (b : Bool) (p : Phase) → PhaseFacts b p → leftIn p ≤ 66
-left-most b Idle f = omega arith
+left-most b (Idle held) f = omega arith
 left-most b (Receive a) f = omega arith
 left-most b (Process r) f = omega arith
 left-most b (Answered r) f = omega arith
@@ -129,7 +129,7 @@ plain-step i is c h g p n r t =
 -- ---- which packet goes
 
 begun-or-some : (k : ℕ) (p : Phase) (other : Ready) → (other ≡ Nothing → ⊥) → begunOr k p other ≡ Nothing → ⊥
-begun-or-some k Idle other n e = n e
+begun-or-some k (Idle held) other n e = n e
 begun-or-some k (Receive a) other n e = n e
 begun-or-some k (Process r) other n e = n e
 begun-or-some k (Answered r) other n e = n e
@@ -139,7 +139,7 @@ sending-or-some : (k : ℕ) (p : Phase) (other : Ready) (r : Outgoing) → p ≡
 sending-or-some k p other r e = rw e refl
 
 sending-or-other : (k : ℕ) (p : Phase) (other : Ready) → (other ≡ Nothing → ⊥) → sendingOr k p other ≡ Nothing → ⊥
-sending-or-other k Idle other n e = n e
+sending-or-other k (Idle held) other n e = n e
 sending-or-other k (Receive a) other n e = n e
 sending-or-other k (Process r) other n e = n e
 sending-or-other k (Answered r) other n e = n e
@@ -168,7 +168,7 @@ chosen-some e v i is r t n =
 
 -- with none begun the turn decides
 begun-or-not : (k : ℕ) (p : Phase) (other : Ready) → isBegun p ≡ false → begunOr k p other ≡ other
-begun-or-not k Idle other h = refl
+begun-or-not k (Idle held) other h = refl
 begun-or-not k (Receive a) other h = refl
 begun-or-not k (Process r) other h = refl
 begun-or-not k (Answered r) other h = refl
@@ -201,11 +201,11 @@ turn-decides e v i is r q t a b c = at (which i (e .turn) is (v .numbers .turn-m
 
 -- ---- one call's progress with slot i's response
 
-abbrev nextBy : Call → History → Stepped → History
+abbrev pub nextBy : Call → History → Stepped → History
 nextBy c h s =
     record { world = s .world; trace = λ i. traceAfter i c (h .world) s (h .trace i); counted = h .counted + one? (counts c (h .world)) }
 
-abbrev lastBy : ℕ → Call → History → Stepped → Bool
+abbrev pub lastBy : ℕ → Call → History → Stepped → Bool
 lastBy i c h s = isPacketOf (phaseAt (h .world) i) (phaseAt (s .world) i) (s .event) && eqb (packetsLeft i (nextBy c h s)) 0
 
 data Progress (i : ℕ) (c : Call) (h : History) (s : Stepped) : Type 0 where
@@ -283,27 +283,39 @@ module _ (i : ℕ) (is : i ≤ 1) (buffer : List ℕ) (h : History) (g : Good h)
       ∙ rw (going .full .size, going .count) refl
 
   -- its last packet
+  pub is-last : isLast r ≡ true → lastBy i (poll buffer) h own ≡ true
+  is-last last =
+      let n : r .sent + 1 ≡ packets unit (r .response .length) = eqb-true (r .sent + 1) (packets unit (r .response .length)) last in
+      let none : packetsLeft i (nextBy (poll buffer) h own) ≡ 0 = own-left ∙ omega (arith, n) in
+      both-and (moved (phaseAt (h .world) i) (phaseAt (own .world) i)) (eqb (packetsLeft i (nextBy (poll buffer) h own)) 0) own-moves (eq-eqb (packetsLeft i (nextBy (poll buffer) h own)) 0 none)
+
   own-last : isLast r ≡ true → Progress i (poll buffer) h own
   own-last last =
       let n : r .sent + 1 ≡ packets unit (r .response .length) = eqb-true (r .sent + 1) (packets unit (r .response .length)) last in
-      let none : packetsLeft i (nextBy (poll buffer) h own) ≡ 0 = own-left ∙ omega (arith, n) in
       let reached : length (h .trace i .response) ≤ unit * (r .sent + 1) = rw (going .full .size, n) (packets-cover unit (r .response .length) (omega arith)) in
-      finished (both-and (moved (phaseAt (h .world) i) (phaseAt (own .world) i)) (eqb (packetsLeft i (nextBy (poll buffer) h own)) 0) own-moves (eq-eqb (packetsLeft i (nextBy (poll buffer) h own)) 0 none))
+      finished (is-last last)
       (ap (λ (m : Trace). m .payloads) own-trace ∙ joined (h .world) i r (h .trace i) going ∙ take-all (unit * (r .sent + 1)) (h .trace i .response) reached
       ∙ sym (ap (λ (m : Trace). m .response) own-trace))
 
   -- another of its packets
+  more-behind : isLast r ≡ false → r .sent + 1 < packets unit (r .response .length)
+  more-behind more =
+      omega (arith, packets-bounds unit (r .response .length) (r .sent) (omega arith) .1 (facts .0), eqb-false (r .sent + 1) (packets unit (r .response .length)) more)
+
+  pub not-last : isLast r ≡ false → lastBy i (poll buffer) h own ≡ false
+  not-last more =
+      no-and (moved (phaseAt (h .world) i) (phaseAt (own .world) i)) (eqb (packetsLeft i (nextBy (poll buffer) h own)) 0)
+      (ne-eqb (packetsLeft i (nextBy (poll buffer) h own)) 0 (λ z. omega (arith, more-behind more, sym own-left ∙ z)))
+
   own-more : isLast r ≡ false → counts (poll buffer) (h .world) ≡ true → Progress i (poll buffer) h own
   own-more more counted =
-      let bound = packets-bounds unit (r .response .length) (r .sent) (omega arith) .1 (facts .0) in
-      let n : r .sent + 1 < packets unit (r .response .length) = omega (arith, bound, eqb-false (r .sent + 1) (packets unit (r .response .length)) more) in
-      let some : eqb (packetsLeft i (nextBy (poll buffer) h own)) 0 ≡ false = ne-eqb (packetsLeft i (nextBy (poll buffer) h own)) 0 (λ z. omega (arith, sym own-left ∙ z)) in
+      let n = more-behind more in
       let phase : phaseAt (own .world) i ≡ Transmit (advanced r) = own-phase ∙ rw more refl in
       let left : leftIn (phaseAt (own .world) i) ≡ packets unit (r .response .length) - (r .sent + 1) = ap leftIn phase in
       let begun : isBegun (phaseAt (own .world) i) ≡ true = ap isBegun phase ∙ lt-ltb 0 (r .sent + 1) (omega arith) in
       let front : ahead i (own .world .endpoint) ≡ 0 = rw begun refl in
       let was : leftIn (phaseAt (h .world) i) ≡ packets unit (r .response .length) - r .sent = ap leftIn t in
-      goes (no-and (moved (phaseAt (h .world) i) (phaseAt (own .world) i)) (eqb (packetsLeft i (nextBy (poll buffer) h own)) 0) some) (advanced r) phase (rw counted (omega (arith, left, front, was, n)))
+      goes (not-last more) (advanced r) phase (rw counted (omega (arith, left, front, was, n)))
 
   -- a packet of the other slot
   module _ (q : Outgoing) (c : chosen e₀ ≡ From (otherSlot i) q) where
@@ -356,8 +368,8 @@ module _ (i : ℕ) (is : i ≤ 1) (buffer : List ℕ) (h : History) (g : Good h)
         rw (mine, unbegun, not-turn, their-phase) (go (isLast q) refl)
       where
         go : (b : Bool) → isLast q ≡ b
-            → (if isBegun ((if b then idled (slotAt e₀ o) else withPhase (slotAt e₀ o) (Transmit (advanced q))) .phase)
-            then leftIn ((if b then idled (slotAt e₀ o) else withPhase (slotAt e₀ o) (Transmit (advanced q))) .phase) else 0) + 1 ≤ leftOf q
+            → (if isBegun ((if b then holding (slotAt e₀ o) (q .response) else withPhase (slotAt e₀ o) (Transmit (advanced q))) .phase)
+            then leftIn ((if b then holding (slotAt e₀ o) (q .response) else withPhase (slotAt e₀ o) (Transmit (advanced q))) .phase) else 0) + 1 ≤ leftOf q
         go true e = bounds .0
         go false e = rw (lt-ltb 0 (q .sent + 1) (omega arith)) (omega (arith, bounds .0))
 
@@ -479,7 +491,7 @@ left-is i is h g r t =
     rw (k .full .size, k .count) refl
 
 pub sending-phase : (p : Phase) → isTransmit p ≡ true → (r : Outgoing) × (p ≡ Transmit r)
-sending-phase Idle h = false-true h
+sending-phase (Idle held) h = false-true h
 sending-phase (Receive a) h = false-true h
 sending-phase (Process r) h = false-true h
 sending-phase (Answered r) h = false-true h

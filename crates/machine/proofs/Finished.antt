@@ -80,7 +80,7 @@ module _ (w₀ : World) (trace : ℕ → Trace) (s₀ : Sound w₀)
       row is r Taken u p = none
 
       from : i ≤ 1 → (p : Phase) → phaseAt w₀ i ≡ p → After (takenFrom (w₀ .endpoint) i p)
-      from is Idle p = none
+      from is (Idle held) p = none
       from is (Receive a) p = none
       from is (Process r) p = row is r (r .taking) refl p
       from is (Answered r) p = none
@@ -150,7 +150,7 @@ module _ (w₀ : World) (trace : ℕ → Trace) (s₀ : Sound w₀)
       row is r Taken p = if-ind After (not (isBody body)) (λ _. none 35 refl) (λ _. finished i t body is r p)
 
       into : i ≤ 1 → (p : Phase) → phaseAt w₀ i ≡ p → After (completedIn w₀ i t body p)
-      into is Idle p = none 31 refl
+      into is (Idle held) p = none 31 refl
       into is (Receive a) p = none 31 refl
       into is (Process r) p = if-ind After (not (isPresent t (slotAt (w₀ .endpoint) i))) (λ _. none 32 refl) (λ _. row is r (r .taking) p)
       into is (Answered r) p = none 31 refl
@@ -159,7 +159,7 @@ module _ (w₀ : World) (trace : ℕ → Trace) (s₀ : Sound w₀)
   -- ---- timeout
 
   receive-early : (p : Phase) → isReceive p ≡ true → isEarly p ≡ true
-  receive-early Idle h = refl
+  receive-early (Idle held) h = refl
   receive-early (Receive a) h = refl
   receive-early (Process r) h = h
   receive-early (Answered r) h = h

@@ -2,7 +2,7 @@
 -- Assumes nothing.
 use Prim.Native.Nat.{ℕ, _+_, _*_, _/_, _%_, _^_, _≤_}
 use mathlib.Core.Path.{_≡_, refl, ap}
-use mathlib.Core.Bool.{Bool, true, false, not, _&&_}
+use mathlib.Core.Bool.{Bool, true, false, not}
 use mathlib.Core.List.{List, [], _∷_}
 use native.Mathlib.Nat.{mod-lt, mod-eq-of-lt, zero-lt-suc}
 use native.Mathlib.Omega.{arith}
@@ -11,7 +11,7 @@ use lib.ListN.{length, take}
 use borrow.Author.Tests.{ne-eqb}
 use Rattle.lent.specs.Choice.{if_then_else_}
 use Rattle.lent.specs.Bytes.{byteAt, isSet}
-use Rattle.lent.proofs.Choice.{false-true, differ}
+use Rattle.lent.proofs.Choice.{false-true, differ, and-false, not-and}
 use Rattle.nvme_mi.specs.Message.{messageHeader, isKnown, commandFault}
 use Rattle.nvme_mi.specs.Response.{response, faultBody}
 use Rattle.nvme_mi.specs.declared.Fault.{Fault}
@@ -23,7 +23,7 @@ use Rattle.machine.specs.Calls.{receive, number}
 use Rattle.machine.specs.Valid.{isBegun, PhaseFacts}
 use Rattle.machine.specs.History.{Trace, isTransmit, kindOf, responseFor, leastLength, fixedAtEntry, commanded, sending, transmitted}
 use Rattle.machine.specs.Demands.{isProcess}
-use Rattle.machine.specs.Types.{Taking, Untaken, Taken, Request, Response, Outgoing, Phase, Idle, Receive, Process, Answered, Transmit, Slot}
+use Rattle.machine.specs.Types.{Taking, Untaken, Taken, Request, Response, Outgoing, Held, NoResponse, Last, Phase, Idle, Receive, Process, Answered, Transmit, Slot}
 use Rattle.machine.proofs.Slots.{isEarly}
 
 -- ---- the fit
@@ -55,8 +55,13 @@ pub record Going (r : Outgoing) (store : List ℕ) (l : Trace) : Type 0 where
   pub paid : l .payloads ≡ take (unit * r .sent) (l .response)
   pub count : l .packets ≡ r .sent
 
+-- what is held lies at the store's front, and is the response of the last entry
+abbrev pub FitH : Held → List ℕ → Trace → Type 0
+FitH NoResponse store l = Unit {0}
+FitH (Last r) store l = Full r store l
+
 abbrev pub FitP : Phase → List ℕ → Trace → Type 0
-FitP Idle store l = Unit {0}
+FitP (Idle k) store l = FitH k store l
 FitP (Receive a) store l = take (a .length) store ≡ l .request
 FitP (Process r) store l = Asked r store l
 FitP (Answered r) store l = Full r store l
@@ -80,7 +85,7 @@ pub data Steady (C : Type 0) (p q : Phase) : Type 0 where
   released : (r : Response) → p ≡ Answered r → q ≡ Transmit (outgoing r 0) → Steady C p q
   handed-over : (r : Request) → p ≡ Process r → q ≡ Process (takenRequest r) → Steady C p q
   worked : (r : Request) (b : Bool) (x : Response) → p ≡ Process r → q ≡ settled b x → Steady C p q
-  fell : C → q ≡ Idle → Steady C p q
+  fell : C → q ≡ Idle NoResponse → Steady C p q
 
 pub record Carried (C : Type 0) (s t : Slot) (store : List ℕ) (l m : Trace) : Type 0 where
   pub fit : Fit t store m
@@ -88,14 +93,6 @@ pub record Carried (C : Type 0) (s t : Slot) (store : List ℕ) (l m : Trace) : 
   pub steady : Steady C (s .phase) (t .phase)
 
 -- ---- what the trace gains of a call that hands out no packet
-
-not-and : (b : Bool) → (not b && b) ≡ false
-not-and true = refl
-not-and false = refl
-
-and-false : (b : Bool) → (b && false) ≡ false
-and-false true = refl
-and-false false = refl
 
 pub quiet-same : (p q : Phase) (n : ℕ) (l : Trace) → q ≡ p → transmitted p q (number n) l ≡ l
 quiet-same p q n l e = rw (e, not-and (isTransmit p)) refl
@@ -122,14 +119,14 @@ carried-same {C} {s} {t} {store} {l} n e k f =
       steady = same e;
     })
 
-idle-not : {q : Phase} → q ≡ Idle → isTransmit q ≡ false
+idle-not : {q : Phase} → q ≡ Idle NoResponse → isTransmit q ≡ false
 idle-not e = rw e refl
 
-idle-process : {A : Type 0} {q : Phase} → q ≡ Idle → isProcess q ≡ true → A
+idle-process : {A : Type 0} {q : Phase} → q ≡ Idle NoResponse → isProcess q ≡ true → A
 idle-process e h = false-true (rw e at h)
 
 -- the store may have changed
-carried-idle : {C : Type 0} {s t : Slot} (store : List ℕ) {l : Trace} (n : ℕ) → t .phase ≡ Idle → t .ticket ≡ s .ticket → s .ticket .0 ≡ l .entries % 2 ^ 32
+carried-idle : {C : Type 0} {s t : Slot} (store : List ℕ) {l : Trace} (n : ℕ) → t .phase ≡ Idle NoResponse → t .ticket ≡ s .ticket → s .ticket .0 ≡ l .entries % 2 ^ 32
     → Steady C (s .phase) (t .phase) → Carried C s t store l (transmitted (s .phase) (t .phase) (number n) l)
 carried-idle {C} {s} {t} store {l} n e k f g =
     rw (quiet-other (s .phase) (t .phase) n l (idle-not e))
@@ -139,20 +136,20 @@ carried-idle {C} {s} {t} store {l} n e k f g =
       steady = g;
     })
 
-pub carried-ended : {C : Type 0} {s t : Slot} (store : List ℕ) {l : Trace} (n : ℕ) → isEarly (s .phase) ≡ true → t .phase ≡ Idle → t .ticket ≡ s .ticket
+pub carried-ended : {C : Type 0} {s t : Slot} (store : List ℕ) {l : Trace} (n : ℕ) → isEarly (s .phase) ≡ true → t .phase ≡ Idle NoResponse → t .ticket ≡ s .ticket
     → s .ticket .0 ≡ l .entries % 2 ^ 32 → Carried C s t store l (transmitted (s .phase) (t .phase) (number n) l)
 carried-ended store n early e k f = carried-idle store n e k f (newly early (rw e refl))
 
-pub carried-cut : {C : Type 0} {s t : Slot} (store : List ℕ) {l : Trace} (n : ℕ) → C → t .phase ≡ Idle → t .ticket ≡ s .ticket
+pub carried-cut : {C : Type 0} {s t : Slot} (store : List ℕ) {l : Trace} (n : ℕ) → C → t .phase ≡ Idle NoResponse → t .ticket ≡ s .ticket
     → s .ticket .0 ≡ l .entries % 2 ^ 32 → Carried C s t store l (transmitted (s .phase) (t .phase) (number n) l)
 carried-cut store n c e k f = carried-idle store n e k f (fell c e)
 
--- Resume: a response that waited in Process goes to Transmit
-pub carried-released : {C : Type 0} {s t : Slot} {store : List ℕ} {l : Trace} (n : ℕ) (r : Response) → s .phase ≡ Answered r
-    → t .phase ≡ Transmit (outgoing r 0) → t .ticket ≡ s .ticket → Fit s store l → Carried C s t store l (transmitted (s .phase) (t .phase) (number n) l)
-carried-released {C} {s} {t} {store} {l} n r a e k f =
-    let full : Full r store l = rw a at (f .phase-fits) in
-    rw (quiet-begins (s .phase) (t .phase) n l (rw a refl) (rw e refl))
+-- a response that is there goes to Transmit
+carried-begins : {C : Type 0} {s t : Slot} {store : List ℕ} {l : Trace} (n : ℕ) (r : Response) → isTransmit (s .phase) ≡ false → Full r store l
+    → t .phase ≡ Transmit (outgoing r 0) → t .ticket ≡ s .ticket → Fit s store l → Steady C (s .phase) (t .phase)
+    → Carried C s t store l (transmitted (s .phase) (t .phase) (number n) l)
+carried-begins {C} {s} {t} {store} {l} n r a full e k f g =
+    rw (quiet-begins (s .phase) (t .phase) n l a (rw e refl))
     (record {
       fit =
           record {
@@ -160,8 +157,18 @@ carried-released {C} {s} {t} {store} {l} n r a e k f =
             ticket-is = rw k (f .ticket-is);
           };
       entry = stayed refl (λ h. false-true (rw e at h));
-      steady = released r a e;
+      steady = g;
     })
+
+-- Resume: one that waited in Process
+pub carried-released : {C : Type 0} {s t : Slot} {store : List ℕ} {l : Trace} (n : ℕ) (r : Response) → s .phase ≡ Answered r
+    → t .phase ≡ Transmit (outgoing r 0) → t .ticket ≡ s .ticket → Fit s store l → Carried C s t store l (transmitted (s .phase) (t .phase) (number n) l)
+carried-released n r a e k f = carried-begins n r (rw a refl) (rw a at (f .phase-fits)) e k f (released r a e)
+
+-- Replay: one that an Idle slot holds
+pub carried-replayed : {C : Type 0} {s t : Slot} {store : List ℕ} {l : Trace} (n : ℕ) (r : Response) → s .phase ≡ Idle (Last r)
+    → t .phase ≡ Transmit (outgoing r 0) → t .ticket ≡ s .ticket → Fit s store l → Carried C s t store l (transmitted (s .phase) (t .phase) (number n) l)
+carried-replayed n r a e k f = carried-begins n r (rw a refl) (rw a at (f .phase-fits)) e k f (newly (rw a refl) (rw e refl))
 
 -- ---- the response in the document's words is the machine's
 

@@ -26,7 +26,7 @@ use Rattle.machine.specs.Calls.{receive, Event, number, step}
 use Rattle.machine.specs.History.{Trace, History, bytesFrom4, phaseAt, isTransmit, isPacketOf, isFor, requestWith, commanded, transmitted, next, run, start}
 use Rattle.machine.specs.Gathering.{gatheringIn, gatheringAt, Gathers, GathersSo, Arrives, last, one-more, GathersAll, CutGathered}
 use Rattle.machine.proofs.Slots.{facts-at, from-same}
-use Rattle.machine.proofs.Receiving.{Origin, opens, goes-on, Joining, filled, grown, Ground, in-table, of-no-slot, Break, in-sequence, in-size, in-total, Walk, walked}
+use Rattle.machine.proofs.Receiving.{Origin, opens, goes-on, Joining, filled, grown, Ground, in-table, of-control, of-no-slot, Break, in-sequence, in-size, in-total, Walk, walked}
 use Rattle.machine.proofs.Places.{Which, this, that, which, slot-this}
 use Rattle.machine.proofs.Keeps.{store-at}
 use Rattle.machine.proofs.Fits.{Fit}
@@ -70,7 +70,7 @@ module _ (w₀ : World) (p : List ℕ) (trace : ℕ → Trace) (s₀ : Sound w�
   joins-it w i at j m = ap (gatherRead 64 4224 (gatheringIn (phaseAt w₀ i) (trace i)) (payloadOf p)) (j .read-so) ∙ go (j .origin)
     where
       go : {n : ℕ} → Origin w₀ p w i n → gatherRead 64 4224 (gatheringIn (phaseAt w₀ i) (trace i)) (payloadOf p) (Packet (fields p)) ≡ Joined p (requestWith p (trace i))
-      go (opens som e uncut) =
+      go (opens som e uncut _) =
           let text : requestWith p (trace i) ≡ bytesFrom4 p = rw som refl in
           som-first (gatheringIn (phaseAt w₀ i) (trace i)) (fields p) (payloadOf p) som ∙ rw uncut refl ∙ ap (Joined p) (sym text)
       go (goes-on som a ph fr none) =
@@ -129,6 +129,7 @@ module _ (w₀ : World) (p : List ℕ) (trace : ℕ → Trace) (s₀ : Sound w�
 
   ground-least : {n : ℕ} → Ground w₀ p n → 2 ≤ n
   ground-least (in-table _ lo _) = omega arith
+  ground-least (of-control _ _) = omega arith
   ground-least (of-no-slot _ _) = omega arith
 
   break-least : {n : ℕ} → Break w₀ p n → 2 ≤ n

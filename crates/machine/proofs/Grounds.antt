@@ -25,7 +25,7 @@ use Rattle.machine.specs.History.{hasSom, sourceOf, messageTagOf, bytesF
 use Rattle.machine.specs.Numbers.{rightSizes}
 use Rattle.machine.specs.Demands.{isIdleNow}
 use Rattle.machine.specs.Grounds.{hasEom, takenIn, phaseFound, firstNumber, joinNumber, joinOr, Grounds}
-use Rattle.machine.specs.Types.{Assembly, Phase, Idle, Receive, Process, Answered, Transmit, Slot, Nowhere, At}
+use Rattle.machine.specs.Types.{Assembly, NoResponse, Phase, Idle, Receive, Process, Answered, Transmit, Slot, Nowhere, At}
 use Rattle.machine.proofs.Slots.{facts-at}
 use Rattle.machine.proofs.Receiving.{csi-most, receives-gathers}
 use Rattle.machine.proofs.Keeps.{store-at, sound-of}
@@ -68,7 +68,7 @@ module _ (w : World) (p : List ℕ) (v : Valid (w .endpoint)) where
       rw (slot-both (endedSlot (fields p .source) (fields p .tag)) (w .endpoint) i is, receives-gathers (sourceOf p) (messageTagOf p) (phaseAt w i))
       (by (gathers (sourceOf p) (messageTagOf p) (phaseAt w i)) (slotAt (w .endpoint) i))
     where
-      by : (b : Bool) (s : Slot) → isIdle ((if b then record { ticket = s .ticket; paused = false; busy = s .busy; phase = Idle } else s) .phase) ≡ isIdleNow (if b then Idle else s .phase)
+      by : (b : Bool) (s : Slot) → isIdle ((if b then record { ticket = s .ticket; paused = false; busy = s .busy; phase = Idle NoResponse } else s) .phase) ≡ isIdleNow (if b then Idle NoResponse else s .phase)
       by true s = refl
       by false s = sym (idle-now (s .phase))
 
@@ -130,7 +130,7 @@ module _ (w : World) (p : List ℕ) (v : Sound w) where
   joins-number = outer (phaseAt w 0) refl
     where
       inner : (q : Phase) → phaseAt w 1 ≡ q → laterBy w (fields p) (payloadOf p) (holderIn (sourceOf p) (messageTagOf p) 1 q Nowhere) .answer ≡ joinOr w p 1 21
-      inner Idle e = unfold refused in (rw e refl)
+      inner (Idle held) e = unfold refused in (rw e refl)
       inner (Receive a) e = rw e (go (isFrom (sourceOf p) (messageTagOf p) a) refl)
         where
           go : (b : Bool) → isFrom (sourceOf p) (messageTagOf p) a ≡ b
@@ -143,7 +143,7 @@ module _ (w : World) (p : List ℕ) (v : Sound w) where
 
       outer : (q : Phase) → phaseAt w 0 ≡ q
           → laterBy w (fields p) (payloadOf p) (holderIn (sourceOf p) (messageTagOf p) 0 q (holderIn (sourceOf p) (messageTagOf p) 1 (phaseAt w 1) Nowhere)) .answer ≡ joinOr w p 0 (joinOr w p 1 21)
-      outer Idle e = rw e (inner (phaseAt w 1) refl)
+      outer (Idle held) e = rw e (inner (phaseAt w 1) refl)
       outer (Receive a) e = rw e (go (isFrom (sourceOf p) (messageTagOf p) a) refl)
         where
           go : (b : Bool) → isFrom (sourceOf p) (messageTagOf p) a ≡ b

@@ -25,7 +25,7 @@ next-eid c h g =
     (λ c plain. frame-eid (h .world .endpoint) (step c (h .world) .world .endpoint) (plain-carries c h g plain .frame))
     (λ buffer. poll-eid (poll-case (h .world) buffer (g .sound))) refl c
 
-run-eid : (xs : List Call) (h : History) → Good h → run xs h .world .endpoint .eid ≡ h .world .endpoint .eid
+pub run-eid : (xs : List Call) (h : History) → Good h → run xs h .world .endpoint .eid ≡ h .world .endpoint .eid
 unfolding run
 run-eid [] h g = refl
 run-eid (c ∷ xs) h g = run-eid xs (next c h) (good-next c h g) ∙ next-eid c h g

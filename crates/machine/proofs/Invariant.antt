@@ -12,8 +12,8 @@ use Rattle.nvme_mi.specs.Message.{smallest}
 use Rattle.machine.specs.State.{isIdle}
 use Rattle.machine.specs.Wire.{unit, store-size}
 use Rattle.machine.specs.Poll.{otherSlot}
-use Rattle.machine.specs.Valid.{smallest-response, between, phased, unpausedIdle, gatheredFits, packetLeft, messageFits, waitsPaused, isBegun, begunTurn, allOf, clauses, validWith, valid, PhaseFacts, ValidSlots, two, Valid}
-use Rattle.machine.specs.Types.{Phase, Idle, Receive, Process, Answered, Transmit, Slot, Endpoint}
+use Rattle.machine.specs.Valid.{smallest-response, between, phased, unpausedIdle, gatheredFits, packetLeft, heldFits, messageFits, waitsPaused, isBegun, begunTurn, allOf, clauses, validWith, valid, Fits, HeldFacts, PhaseFacts, ValidSlots, two, Valid}
+use Rattle.machine.specs.Types.{Response, Held, NoResponse, Last, Phase, Idle, Receive, Process, Answered, Transmit, Slot, Endpoint}
 
 between-bounds : (low high n : ℕ) → between low high n ≡ true → (low ≤ n) × (n ≤ high)
 between-bounds low high n h = let k = and-both (leb low n) (leb n high) h in (leb-true low n (k .0), leb-true n high (k .1))
@@ -30,19 +30,31 @@ pub record Passes (b : Bool) (p : Phase) : Type 0 where
   pub fits : messageFits p ≡ true
   pub waits : phased true (λ a. true) (λ r. true) (λ r. b) (λ r. true) p ≡ true
 
+fits-between : (r : Response) → between smallest-response store-size (r .length) ≡ true → Fits r
+fits-between r h =
+    let f = between-bounds smallest-response store-size (r .length) h in
+    record { least = f .0; most = f .1 }
+
+between-fits : (r : Response) → Fits r → between smallest-response store-size (r .length) ≡ true
+between-fits r f = bounds-between smallest-response store-size (r .length) (f .least) (f .most)
+
+held-facts : (k : Held) → heldFits k ≡ true → HeldFacts k
+held-facts NoResponse h = tt
+held-facts (Last r) h = fits-between r h
+
+held-passes : (k : Held) → HeldFacts k → heldFits k ≡ true
+held-passes NoResponse f = refl
+held-passes (Last r) f = between-fits r f
+
 to-facts : (b : Bool) (p : Phase) → Passes b p → PhaseFacts b p
-to-facts b Idle c = not-true b (c .idle)
+to-facts b (Idle held) c = (not-true b (c .idle), held-facts held (c .fits))
 to-facts b (Receive a) c = between-bounds unit store-size (a .length) (c .gathered)
 to-facts b (Process r) c = between-bounds smallest store-size (r .length) (c .fits)
-to-facts b (Answered r) c =
-    let f = between-bounds smallest-response store-size (r .length) (c .fits) in
-    (c .waits, record { least = f .0; most = f .1 })
-to-facts b (Transmit r) c =
-    let f = between-bounds smallest-response store-size (r .response .length) (c .fits) in
-    (ltb-true (unit * r .sent) (r .response .length) (c .left), record { least = f .0; most = f .1 })
+to-facts b (Answered r) c = (c .waits, fits-between r (c .fits))
+to-facts b (Transmit r) c = (ltb-true (unit * r .sent) (r .response .length) (c .left), fits-between (r .response) (c .fits))
 
 of-facts : (b : Bool) (p : Phase) → PhaseFacts b p → Passes b p
-of-facts b Idle f = record { idle = rw f refl; gathered = refl; left = refl; fits = refl; waits = refl }
+of-facts b (Idle held) f = record { idle = rw (f .0) refl; gathered = refl; left = refl; fits = held-passes held (f .1); waits = refl }
 of-facts b (Receive a) f = record { idle = refl; gathered = bounds-between unit store-size (a .length) (f .0) (f .1); left = refl; fits = refl; waits = refl }
 of-facts b (Process r) f = record { idle = refl; gathered = refl; left = refl; fits = bounds-between smallest store-size (r .length) (f .0) (f .1); waits = refl }
 of-facts b (Answered r) f =
@@ -50,7 +62,7 @@ of-facts b (Answered r) f =
       idle = refl;
       gathered = refl;
       left = refl;
-      fits = bounds-between smallest-response store-size (r .length) (f .1 .least) (f .1 .most);
+      fits = between-fits r (f .1);
       waits = f .0;
     }
 of-facts b (Transmit r) f =
@@ -58,7 +70,7 @@ of-facts b (Transmit r) f =
       idle = refl;
       gathered = refl;
       left = lt-ltb (unit * r .sent) (r .response .length) (f .0);
-      fits = bounds-between smallest-response store-size (r .response .length) (f .1 .least) (f .1 .most);
+      fits = between-fits (r .response) (f .1);
       waits = refl;
     }
 

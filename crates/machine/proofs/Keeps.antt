@@ -23,17 +23,17 @@ use Rattle.nvme_mi.proofs.Laws.{length-response}
 use Rattle.nvme_mi.specs.declared.MessageHeader.{MessageHeader}
 use Rattle.nvme_mi.specs.declared.Fault.{Fault}
 use Rattle.nvme_mi.specs.declared.Fault.the-variants.{NoFault, Parameter, Failure}
-use Rattle.machine.specs.State.{World, Outcome, slotAt, storeAt, withSlot, withSlots, withFlags, withReply, withStore, withEndpoint, withPhase, withBusy, idled, isIdle, fresh, ticket, settled}
-use Rattle.machine.specs.Wire.{unit, store-size, response-place, packet-room, wrongStores, opcodeOf, clearsFlags}
-use Rattle.machine.specs.Control.{pausedSlot, pause, resumedSlot, released, resume, abort, clearFlags, primitive, replied, controlledBy, controlled}
+use Rattle.machine.specs.State.{World, Outcome, slotAt, storeAt, withSlot, withSlots, withFlags, withReply, withStore, withEndpoint, withPhase, withBusy, idled, heldIn, isIdle, fresh, ticket, outgoing, settled}
+use Rattle.machine.specs.Wire.{unit, store-size, response-place, packet-room, wrongStores, opcodeOf, noParameter, clearsFlags}
+use Rattle.machine.specs.Control.{pausedSlot, pause, resumedSlot, released, resume, abort, clearFlags, replayed, replay, primitive, replied, controlledBy, controlled}
 use Rattle.machine.specs.Process.{request, processing, responseTo, responded, respondedAtOnce, entered}
 use Rattle.machine.specs.Receive.{refused, refusedBusy, raised, flagOf, dropped, gathers, endedSlot, endAssembly, received}
 use Rattle.machine.specs.Finish.{isSlot, takenRow, takenFrom, taken, isBody, isPresent, completedRow, completedIn, completed, isReceive, timedOut, started, wasReset, wasSetUp}
 use Rattle.machine.specs.Poll.{Polled, otherSlot, sendingOr, hasBegun, begunOr, chosen, anyPaused, ready, replyFirst, isLast, advanced, afterPacket, sentControl, sentCommand, polledBy, polled}
 use Rattle.machine.specs.Valid.{phased, apart, isBegun, Fits, PhaseFacts, ValidSlot, ValidSlots, two, ValidFlags, Valid, Sound}
 use Rattle.machine.specs.Calls.{Call, receive, take!, read, complete, poll, timeout, reset, step, begin}
-use Rattle.machine.specs.Types.{Ticket, Assembly, Taking, Untaken, Taken, Request, Response, Outgoing, Phase, Idle, Receive, Process, Answered, Transmit, Slot, Endpoint, Done, TakeDone, Ready, Nothing, From, Acted}
-use Rattle.machine.proofs.Slots.{other-most, slot-facts, facts-at, apart-left, apart-new-left, apart-new-right}
+use Rattle.machine.specs.Types.{Ticket, Assembly, Taking, Untaken, Taken, Request, Response, Outgoing, Held, NoResponse, Last, Phase, Idle, Receive, Process, Answered, Transmit, Slot, Endpoint, Done, TakeDone, Ready, Nothing, From, Acted}
+use Rattle.machine.proofs.Slots.{held-idle, other-most, slot-facts, facts-at, apart-left, apart-new-left, apart-new-right}
 use Rattle.machine.proofs.Receiving.{Joining, filled, grown, Walk, csi-most, walked}
 
 -- ---- flags
@@ -121,21 +121,21 @@ abbrev isQuiet : Phase → Bool
 isQuiet = phased true (λ a. false) (λ r. true) (λ r. true) (λ r. eqb (r .sent) 0)
 
 quiet-gathers : (p : Phase) → isQuiet p ≡ true → (source tag : ℕ) → gathers source tag p ≡ false
-quiet-gathers Idle h source tag = refl
+quiet-gathers (Idle held) h source tag = refl
 quiet-gathers (Receive a) h source tag = false-true h
 quiet-gathers (Process r) h source tag = refl
 quiet-gathers (Answered r) h source tag = refl
 quiet-gathers (Transmit r) h source tag = refl
 
 quiet-right : (p q : Phase) → isQuiet q ≡ true → apart p q ≡ true
-quiet-right p Idle h = refl
+quiet-right p (Idle held) h = refl
 quiet-right p (Receive a) h = false-true h
 quiet-right p (Process r) h = refl
 quiet-right p (Answered r) h = refl
 quiet-right p (Transmit r) h = refl
 
 quiet-begun : {A : Type 0} (p : Phase) → isQuiet p ≡ true → isBegun p ≡ true → A
-quiet-begun Idle h b = false-true b
+quiet-begun (Idle held) h b = false-true b
 quiet-begun (Receive a) h b = false-true b
 quiet-begun (Process r) h b = false-true b
 quiet-begun (Answered r) h b = false-true b
@@ -150,7 +150,7 @@ kept-quiet {e} i h v s f q =
     kept-slot i h v s (record { phase-facts = f; begun-turn = λ b. quiet-begun (s .phase) q b }) (beside-quiet i s (slotAt e (otherSlot i)) q)
 
 pub idled-valid : {e : Endpoint} (i : ℕ) → i ≤ 1 → Valid e → Valid (withSlot e i (idled (slotAt e i)))
-idled-valid {e} i h v = kept-quiet i h v (idled (slotAt e i)) refl refl
+idled-valid {e} i h v = kept-quiet i h v (idled (slotAt e i)) (refl, tt) refl
 
 beside-new : (i : ℕ) (s o : Slot) (a : Assembly) → s .phase ≡ Receive a → gathers (a .source) (a .tag) (o .phase) ≡ false → Beside i s o
 beside-new zero s o a e h = rw e (apart-new-left a (o .phase) h)
@@ -184,7 +184,7 @@ not-false-is : (b : Bool) → b ≡ false → not b ≡ true
 not-false-is b e = rw e refl
 
 calmer-apart : (p p′ q q′ : Phase) → Calmer p p′ → Calmer q q′ → apart p q ≡ true → apart p′ q′ ≡ true
-calmer-apart p p′ q Idle c d h = refl
+calmer-apart p p′ q (Idle held) c d h = refl
 calmer-apart p p′ q (Receive b) c d h =
     not-false-is (gathers (b .source) (b .tag) p′) (c .fewer (b .source) (b .tag) (not-true (gathers (b .source) (b .tag) p) (rw (d .was b refl) at h)))
 calmer-apart p p′ q (Process r) c d h = refl
@@ -204,12 +204,12 @@ on-both-valid f facts calm (two {s} {t} vs vt k) =
 same-calm : (p : Phase) → Calmer p p
 same-calm p = record { fewer = λ s t h. h; was = λ b h. h; begun = λ h. h }
 
-idle-calm : (p : Phase) → Calmer p Idle
+idle-calm : (p : Phase) → Calmer p (Idle NoResponse)
 idle-calm p = record { fewer = λ s t h. refl; was = λ b h. cc; begun = λ h. cc }
 
 -- Pause
 flag-facts : (b : Bool) (p : Phase) → isIdle p ≡ false → PhaseFacts b p → PhaseFacts true p
-flag-facts b Idle h f = h
+flag-facts b (Idle held) h f = (h, f .1)
 flag-facts b (Receive a) h f = f
 flag-facts b (Process r) h f = f
 flag-facts b (Answered r) h f = (refl, f .1)
@@ -228,14 +228,14 @@ pause-valid v = with-slots v (on-both-valid pausedSlot paused-facts (λ s _. pau
 
 -- Resume
 released-facts : (b : Bool) (p : Phase) → PhaseFacts b p → PhaseFacts false (released p)
-released-facts b Idle f = refl
+released-facts b (Idle held) f = (refl, f .1)
 released-facts b (Receive a) f = f
 released-facts b (Process r) f = f
 released-facts b (Answered r) f = (omega (arith, f .1 .least), f .1)
 released-facts b (Transmit r) f = f
 
 released-calm : (p : Phase) → Calmer p (released p)
-released-calm Idle = same-calm Idle
+released-calm (Idle held) = same-calm (Idle held)
 released-calm (Receive a) = same-calm (Receive a)
 released-calm (Process r) = same-calm (Process r)
 released-calm (Answered r) = record { fewer = λ s t h. refl; was = λ x h. cc; begun = λ h. false-true h }
@@ -250,7 +250,7 @@ resume-valid v =
 -- an assembly ends
 ended-facts : (source tag : ℕ) (s : Slot) → PhaseFacts (s .paused) (s .phase) → PhaseFacts (endedSlot source tag s .paused) (endedSlot source tag s .phase)
 ended-facts source tag s f =
-    if-ind (λ (x : Slot). PhaseFacts (x .paused) (x .phase)) (gathers source tag (s .phase)) (λ _. refl) (λ _. f)
+    if-ind (λ (x : Slot). PhaseFacts (x .paused) (x .phase)) (gathers source tag (s .phase)) (λ _. (refl, tt)) (λ _. f)
 
 ended-calm : (source tag : ℕ) (s : Slot) → Calmer (s .phase) (endedSlot source tag s .phase)
 ended-calm source tag s =
@@ -319,20 +319,33 @@ clear-valid i h v = with-flags (busied-valid i h false v) zero-flags
 abbrev StillValid : Acted → Type 0
 StillValid a = Valid (a .endpoint)
 
+-- Replay: a response that is held fits, and goes to Transmit
+replay-valid : {e : Endpoint} (i : ℕ) → i ≤ 1 → Valid e → StillValid (replay e i)
+unfolding replay
+replay-valid {e} i h v = go (heldIn (slotAt e i .phase)) refl
+  where
+    go : (k : Held) → heldIn (slotAt e i .phase) ≡ k → StillValid (replayed e i k)
+    go NoResponse q = v
+    go (Last r) q =
+        let f : PhaseFacts (slotAt e i .paused) (Idle (Last r)) = rw (held-idle (slotAt e i .phase) r q) at (facts-at i h v) in
+        kept-quiet i h v (withPhase (slotAt e i) (Transmit (outgoing r 0))) (omega (arith, f .1 .least), f .1) refl
+
 pub primitive-valid : {e : Endpoint} (opcode i : ℕ) (clear : Bool) → i ≤ 1 → Valid e → Valid (primitive e opcode i clear .endpoint)
 unfolding primitive abort
 primitive-valid {e} opcode i clear h v =
     if-ind StillValid (eqb opcode 0) (λ _. pause-valid v)
     (λ _.
     if-ind StillValid (eqb opcode 1) (λ _. resume-valid v)
-    (λ _. if-ind StillValid (eqb opcode 2) (λ _. idled-valid i h v) (λ _. if-ind Valid clear (λ _. clear-valid i h v) (λ _. v))))
+    (λ _.
+    if-ind StillValid (eqb opcode 2) (λ _. idled-valid i h v)
+    (λ _. if-ind StillValid (eqb opcode 3) (λ _. if-ind Valid clear (λ _. clear-valid i h v) (λ _. v)) (λ _. replay-valid i h v))))
 
 replied-valid : {e : Endpoint} (h : Header) (csi : ℕ) (body : List ℕ) → length body ≡ 4 → Valid e → Valid (replied e h csi body)
 replied-valid h csi body n v = with-reply (h .source) (h .tag) v (rw (length-response control csi body, n) refl)
 
 pub controlled-valid : {e : Endpoint} (h : Header) (mh : MessageHeader) (m : List ℕ) → mh .csi ≤ 1 → Valid e → Valid (controlled e h mh m)
 unfolding controlled
-controlled-valid {e} h mh m is v = go (controlFault mh (opcodeOf m))
+controlled-valid {e} h mh m is v = go (controlFault mh (opcodeOf m) (noParameter m))
   where
     go : (f : Fault) → Valid (controlledBy e h (mh .csi) m f)
     go NoFault = replied-valid h (mh .csi) _ refl (primitive-valid (opcodeOf m) (mh .csi) (clearsFlags m) is v)
@@ -414,7 +427,7 @@ taken-valid e i v = if-ind TakeLeft (not (isSlot i)) (λ _. v) (λ h. from (slot
     row is r Taken f = v
 
     from : i ≤ 1 → (p : Phase) → slotAt e i .phase ≡ p → TakeLeft (takenFrom e i p)
-    from is Idle h = v
+    from is (Idle held) h = v
     from is (Receive a) h = v
     from is (Process r) h = row is r (r .taking) (rw h at (facts-at i is v))
     from is (Answered r) h = v
@@ -444,7 +457,7 @@ completed-sound w i t body s =
         if-ind After (not (isBody body)) (λ _. s) (λ h. let k = body-least body h in responded-sound i r body is (k .0) (k .1) s)
 
     into : i ≤ 1 → (p : Phase) → After (completedIn w i t body p)
-    into is Idle = s
+    into is (Idle held) = s
     into is (Receive a) = s
     into is (Process r) = if-ind After (not (isPresent t (slotAt (w .endpoint) i))) (λ _. s) (λ _. row is r (r .taking))
     into is (Answered r) = s
@@ -480,7 +493,7 @@ started-valid eid flags t u lo hi f =
     }
   where
     fresh-valid : (i : ℕ) (t : Ticket) → ValidSlot 0 i (fresh t)
-    fresh-valid i t = record { phase-facts = refl; begun-turn = λ b. cc }
+    fresh-valid i t = record { phase-facts = (refl, tt); begun-turn = λ b. cc }
 
 pub reset-valid : (e : Endpoint) → Valid e → DoneLeft (wasReset e)
 unfolding wasReset
@@ -506,7 +519,7 @@ data Picked (k : ℕ) (p : Phase) (other : Ready) (i : ℕ) (r : Outgoing) : Typ
   there : other ≡ From i r → Picked k p other i r
 
 sending-or : (k : ℕ) (p : Phase) (other : Ready) {i : ℕ} {r : Outgoing} → sendingOr k p other ≡ From i r → Picked k p other i r
-sending-or k Idle other e = there e
+sending-or k (Idle held) other e = there e
 sending-or k (Receive a) other e = there e
 sending-or k (Process q) other e = there e
 sending-or k (Answered q) other e = there e
@@ -517,7 +530,7 @@ data Begun (k : ℕ) (p : Phase) (other : Ready) (i : ℕ) (r : Outgoing) : Type
   there : other ≡ From i r → isBegun p ≡ false → Begun k p other i r
 
 begun-or : (k : ℕ) (p : Phase) (other : Ready) {i : ℕ} {r : Outgoing} → begunOr k p other ≡ From i r → Begun k p other i r
-begun-or k Idle other e = there e refl
+begun-or k (Idle held) other e = there e refl
 begun-or k (Receive a) other e = there e refl
 begun-or k (Process q) other e = there e refl
 begun-or k (Answered q) other e = there e refl
@@ -589,7 +602,7 @@ pub record Sending (s : Slot) : Type 0 where
 
 after-packet : (s : Slot) (r : Outgoing) → PhaseFacts (s .paused) (Transmit r) → Sending (afterPacket s r)
 after-packet s r f =
-    if-ind Sending (isLast r) (λ _. record { facts = refl; left = λ q. apart-left Idle q (λ a b. refl); right = λ q. refl })
+    if-ind Sending (isLast r) (λ _. record { facts = (refl, f .1); left = λ q. apart-left (Idle (Last (r .response))) q (λ a b. refl); right = λ q. refl })
     (λ h.
     record {
       facts = (more-left r (f .0) h, record { least = f .1 .least; most = f .1 .most });

@@ -4,6 +4,7 @@ pub mod Primitives
 pub mod Keeps
 pub mod Invariant
 pub mod Places
+pub mod Touches
 pub mod Fits
 pub mod Received
 pub mod Finished
@@ -22,3 +23,4 @@ pub mod Replies
 pub mod Identity
 pub mod Pauses
 pub mod Gathered
+pub mod Replays

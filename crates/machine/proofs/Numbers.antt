@@ -43,7 +43,7 @@ take-numbers e i = by (isSlot i) refl
 
     from : (p : Phase) → takeSays (takenFrom e i p .answer)
         ≡ phased (31, []) (λ a. (31, [])) (λ r. if isTaken (r .taking) then (33, []) else (0, slotAt e i .ticket .0 ∷ [])) (λ r. (31, [])) (λ r. (31, [])) p
-    from Idle = refl
+    from (Idle held) = refl
     from (Receive a) = refl
     from (Process r) = row r (r .taking)
     from (Answered r) = refl
@@ -75,7 +75,7 @@ complete-numbers w i t body = rw (wrong-sizes w) (stores (not (rightSizes w)))
         size false = refl
 
     into : (p : Phase) → completedIn w i t body p .answer ≡ completeIn (slotAt (w .endpoint) i .ticket .0) t body p
-    into Idle = refl
+    into (Idle held) = refl
     into (Receive a) = refl
     into (Process r) = mine (isPresent t (slotAt (w .endpoint) i))
       where
@@ -99,7 +99,7 @@ complete-numbers w i t body = rw (wrong-sizes w) (stores (not (rightSizes w)))
 -- ---- timeout
 
 receiving-is : (p : Phase) → isReceive p ≡ isReceiving p
-receiving-is Idle = refl
+receiving-is (Idle held) = refl
 receiving-is (Receive a) = refl
 receiving-is (Process r) = refl
 receiving-is (Answered r) = refl

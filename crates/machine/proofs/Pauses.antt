@@ -10,19 +10,19 @@ use lib.ListN.{length}
 use borrow.Author.Tests.{ne-eqb, le-ltb, eqb-true}
 use Rattle.lent.specs.Choice.{if_then_else_}
 use Rattle.lent.specs.Bytes.{byteAt, isSet}
-use Rattle.lent.proofs.Choice.{if-ind, false-true}
+use Rattle.lent.proofs.Choice.{if-ind, false-true, and-false}
 use Rattle.mctp.specs.Header.{fields, payloadOf}
 use Rattle.nvme_mi.specs.Check.{checkRight}
 use Rattle.nvme_mi.specs.Message.{messageHeader, commandFault, controlFault, smallest}
 use Rattle.nvme_mi.specs.Response.{faultBody}
 use Rattle.nvme_mi.specs.declared.Fault.{Fault}
 use Rattle.nvme_mi.specs.declared.Fault.the-variants.{NoFault, Parameter, Failure}
-use Rattle.machine.specs.State.{World, Outcome, outcome, slot, slotAt, storeAt, withSlot, withEndpoint, onSlot, withPhase, withPaused, withBusy, idled, isIdle, settled}
-use Rattle.machine.specs.Wire.{unit, opcodeOf, clearsFlags, wrongStores}
-use Rattle.machine.specs.Control.{pausedSlot, pause, abort, clearFlags, primitive, controlledBy, controlled}
+use Rattle.machine.specs.State.{World, Outcome, outcome, slot, slotAt, storeAt, withSlot, withEndpoint, onSlot, withPhase, withPaused, withBusy, idled, heldIn, isIdle, outgoing, settled}
+use Rattle.machine.specs.Wire.{unit, opcodeOf, noParameter, clearsFlags}
+use Rattle.machine.specs.Control.{pausedSlot, pause, abort, clearFlags, replayed, replay, primitive, controlledBy, controlled}
 use Rattle.machine.specs.Process.{processing, responseTo, responded, respondedAtOnce, pausedIf, entered}
 use Rattle.machine.specs.Receive.{refused, refusedBusy, dropped, gathers, endedSlot, endAssembly, received}
-use Rattle.machine.specs.Finish.{isSlot, takenRow, takenFrom, taken, isBody, isPresent, completedRow, completedIn, completed, isReceive, timedOut, wasReset}
+use Rattle.machine.specs.Finish.{taken, completed, timedOut, wasReset}
 use Rattle.machine.specs.Poll.{otherSlot, isLast, afterPacket}
 use Rattle.machine.specs.Valid.{Valid, Sound, PhaseFacts}
 use Rattle.machine.specs.Calls.{Call, receive, take!, read, complete, poll, timeout, reset, Stepped, step}
@@ -30,12 +30,13 @@ use Rattle.machine.specs.History.{Trace, History, hasSom, sourceOf, mess
 use Rattle.machine.specs.Demands.{isIdleNow}
 use Rattle.machine.specs.Replies.{slotFound, actedOn}
 use Rattle.machine.specs.Pauses.{pauses, resumes, restarts, flagAfter, FlagsMove}
-use Rattle.machine.specs.Types.{Ticket, Taking, Untaken, Taken, Request, Response, Phase, Idle, Receive, Process, Answered, Transmit, Slot, Endpoint, Done, TakeDone, Acted}
-use Rattle.machine.proofs.Slots.{facts-at, other-most}
-use Rattle.machine.proofs.Receiving.{Joining, filled, grown, whole, Controls, Busy, Gathering, Ground, in-table, of-no-slot, Break, in-sequence, in-size, in-total, Walk, csi-most, receives-gathers, walked}
+use Rattle.machine.specs.Types.{Response, Held, NoResponse, Last, Phase, Idle, Receive, Process, Answered, Transmit, Slot, Endpoint, Acted}
+use Rattle.machine.proofs.Slots.{held-idle, held-not, facts-at, other-most}
+use Rattle.machine.proofs.Receiving.{Joining, filled, grown, whole, Controls, Busy, Gathering, Ground, in-table, of-control, of-no-slot, Break, in-sequence, in-size, in-total, Walk, csi-most, receives-gathers, walked}
 use Rattle.machine.proofs.Primitives.{is-primitive, acting}
-use Rattle.machine.proofs.Keeps.{received-sound, slot-most, chosen-at, step-sound}
+use Rattle.machine.proofs.Keeps.{received-sound, chosen-at, step-sound}
 use Rattle.machine.proofs.Places.{Which, this, that, which, slot-this, slot-that, slot-both}
+use Rattle.machine.proofs.Touches.{Touched, alone, handed, fixed, ended as timed-out, Touches, take-touches, complete-touches, timeout-touches}
 use Rattle.machine.proofs.Fits.{Fit}
 use Rattle.machine.proofs.Received.{Mid, for-this, for-that, front, in-process, command, e₁, e₂, w₂, e₂-valid, this-at, that-at, start-mid, ended-mid}
 use Rattle.machine.proofs.Polling.{PollCase, still, replies, sends, poll-case}
@@ -49,22 +50,18 @@ unless-idle : (s : Slot) (x : Bool) → PhaseFacts (s .paused) (s .phase) → (i
 unless-idle s x f k = by (s .phase) refl f
   where
     by : (p : Phase) → s .phase ≡ p → PhaseFacts (s .paused) p → s .paused ≡ (if isIdleNow p then false else x)
-    by Idle e g = g
+    by (Idle held) e g = g .0
     by (Receive a) e g = k (ap isIdleNow e)
     by (Process r) e g = k (ap isIdleNow e)
     by (Answered r) e g = k (ap isIdleNow e)
     by (Transmit r) e g = k (ap isIdleNow e)
 
-idle-no : {A : Type 0} {p : Phase} → p ≡ Idle → isIdleNow p ≡ false → A
+idle-no : {A : Type 0} {p : Phase} → p ≡ Idle NoResponse → isIdleNow p ≡ false → A
 idle-no e n = false-true (sym n ∙ ap isIdleNow e)
 
 and-true : (b : Bool) → (b && true) ≡ b
 and-true true = refl
 and-true false = refl
-
-and-false : (b : Bool) → (b && false) ≡ false
-and-false true = refl
-and-false false = refl
 
 or-false : (b : Bool) → (b || false) ≡ b
 or-false true = refl
@@ -82,53 +79,15 @@ one-flagged e v i is s k j js = at (which i j is js)
     at (this q) = rw (q, slot-this i is v s) k
     at (that q) = rw (q, slot-that i is v s) (λ _. refl)
 
-taken-flagged : (e : Endpoint) → Valid e → (i : ℕ) → Flagged e (taken e i .endpoint)
-unfolding taken
-taken-flagged e v i = if-ind Kept (not (isSlot i)) (λ _ j js _. refl) (λ h. from (slot-most i h) (slotAt e i .phase))
+-- taking, completing and a timeout move no flag of a slot that is not Idle afterwards
+touched-flagged : (e f : Endpoint) → Touches e f → Flagged e f
+touched-flagged e f k j js = by (k j js)
   where
-    Kept : TakeDone → Type 0
-    Kept d = Flagged e (d .endpoint)
-
-    row : i ≤ 1 → (r : Request) (t : Taking) → Kept (takenRow e i r t)
-    row is r Untaken = one-flagged e v i is _ (λ _. refl)
-    row is r Taken = λ j js _. refl
-
-    from : i ≤ 1 → (p : Phase) → Kept (takenFrom e i p)
-    from is Idle = λ j js _. refl
-    from is (Receive a) = λ j js _. refl
-    from is (Process r) = row is r (r .taking)
-    from is (Answered r) = λ j js _. refl
-    from is (Transmit r) = λ j js _. refl
-
-completed-flagged : (w : World) → Valid (w .endpoint) → (i : ℕ) (t : Ticket) (body : List ℕ) → Flagged (w .endpoint) (completed w i t body .world .endpoint)
-unfolding completed responded
-completed-flagged w v i t body =
-    if-ind Kept (wrongStores w) (λ _ j js _. refl) (λ _. if-ind Kept (not (isSlot i)) (λ _ j js _. refl) (λ h. into (slot-most i h) (slotAt (w .endpoint) i .phase)))
-  where
-    Kept : Outcome → Type 0
-    Kept o = Flagged (w .endpoint) (o .world .endpoint)
-
-    row : i ≤ 1 → (r : Request) (u : Taking) → Kept (completedRow w i r body u)
-    row is r Untaken = λ j js _. refl
-    row is r Taken = if-ind Kept (not (isBody body)) (λ _ j js _. refl) (λ _. one-flagged (w .endpoint) v i is _ (λ _. refl))
-
-    into : i ≤ 1 → (p : Phase) → Kept (completedIn w i t body p)
-    into is Idle = λ j js _. refl
-    into is (Receive a) = λ j js _. refl
-    into is (Process r) = if-ind Kept (not (isPresent t (slotAt (w .endpoint) i))) (λ _ j js _. refl) (λ _. row is r (r .taking))
-    into is (Answered r) = λ j js _. refl
-    into is (Transmit r) = λ j js _. refl
-
-timed-out-flagged : (e : Endpoint) → Valid e → (i : ℕ) → Flagged e (timedOut e i .endpoint)
-unfolding timedOut
-timed-out-flagged e v i =
-    if-ind Kept (not (isSlot i)) (λ _ j js _. refl)
-    (λ h.
-    if-ind Kept (not (isReceive (slotAt e i .phase)) || slotAt e i .paused) (λ _ j js _. refl)
-    (λ _. one-flagged e v i (slot-most i h) (idled (slotAt e i)) (λ n. false-true (sym n))))
-  where
-    Kept : Done → Type 0
-    Kept d = Flagged e (d .endpoint)
+    by : {s t : Slot} → Touched s t → isIdleNow (t .phase) ≡ false → t .paused ≡ s .paused
+    by (alone q) n = rw q refl
+    by (handed r p q) n = rw q refl
+    by (fixed r x p q) n = rw q refl
+    by (timed-out p q) n = idle-no (ap (λ (x : Slot). x .phase) q) n
 
 reset-flagged : (e : Endpoint) → Flagged e (wasReset e .endpoint)
 unfolding wasReset
@@ -172,7 +131,7 @@ module _ (w₀ : World) (p : List ℕ) (trace : ℕ → Trace) (s₀ : Sound w�
   -- on the way a slot is as it was, or its assembly has ended
   data Way (j : ℕ) (s t : Slot) : Type 0 where
     kept : t ≡ s → ends j ≡ false → Way j s t
-    ended : t .phase ≡ Idle → t .paused ≡ false → ends j ≡ true → Way j s t
+    ended : t .phase ≡ Idle NoResponse → t .paused ≡ false → ends j ≡ true → Way j s t
 
   record On (w : World) : Type 0 where
     mid : Mid w₀ p trace s₀ fits w
@@ -185,14 +144,18 @@ module _ (w₀ : World) (p : List ℕ) (trace : ℕ → Trace) (s₀ : Sound w�
   abbrev Moves : Outcome → Type 0
   Moves o = (j : ℕ) → j ≤ 1 → isIdleNow (phaseAt (o .world) j) ≡ false → pausedAt (o .world) j ≡ flagBy (o .answer) j
 
+  -- a slot whose assembly has ended stays so
+  abbrev StaysIdle : Phase → Phase → Type 0
+  StaysIdle p q = p ≡ Idle NoResponse → q ≡ Idle NoResponse
+
   -- a refusal, or a control primitive that moves no flag
-  unmoved : (n : ℕ) → 2 ≤ n → (w : World) → On w → (j : ℕ) → j ≤ 1 → (t : Slot) → t .paused ≡ slotAt (w .endpoint) j .paused → t .phase ≡ phaseAt w j
+  unmoved : (n : ℕ) → 2 ≤ n → (w : World) → On w → (j : ℕ) → j ≤ 1 → (t : Slot) → t .paused ≡ slotAt (w .endpoint) j .paused → StaysIdle (phaseAt w j) (t .phase)
       → isIdleNow (t .phase) ≡ false → t .paused ≡ flagBy n j
   unmoved n lo w o j js t a b k = go (o .ways j js)
     where
       go : Way j (slotAt (w₀ .endpoint) j) (slotAt (w .endpoint) j) → t .paused ≡ flagBy n j
       go (kept e r) = rw (ne-eqb n 1 (λ q. omega arith), le-ltb n 2 lo) (a ∙ ap (λ (s : Slot). s .paused) e ∙ sym (and-true (pausedAt w₀ j)))
-      go (ended i f r) = idle-no (b ∙ i) k
+      go (ended i f r) = idle-no (b i) k
 
   -- a command's packet that is taken in
   carried : (w : World) → On w → (j : ℕ) → j ≤ 1 → (t : Slot) → t .paused ≡ slotAt (w .endpoint) j .paused → t .paused ≡ (pausedAt w₀ j && not (ends j))
@@ -204,7 +167,7 @@ module _ (w₀ : World) (p : List ℕ) (trace : ℕ → Trace) (s₀ : Sound w�
 
   -- only slot i changes
   one-moves : (w : World) → On w → (i n : ℕ) → i ≤ 1 → 2 ≤ n → (s : Slot)
-      → (isIdleNow (s .phase) ≡ false → (s .paused ≡ slotAt (w .endpoint) i .paused) × (s .phase ≡ phaseAt w i))
+      → (isIdleNow (s .phase) ≡ false → (s .paused ≡ slotAt (w .endpoint) i .paused) × StaysIdle (phaseAt w i) (s .phase))
       → (j : ℕ) → j ≤ 1 → isIdleNow (slotAt (withSlot (w .endpoint) i s) j .phase) ≡ false → slotAt (withSlot (w .endpoint) i s) j .paused ≡ flagBy n j
   one-moves w on i n is lo s k j js = at (which i j is js)
     where
@@ -213,10 +176,11 @@ module _ (w₀ : World) (p : List ℕ) (trace : ℕ → Trace) (s₀ : Sound w�
 
       at : Which i j → isIdleNow (slotAt (withSlot (w .endpoint) i s) j .phase) ≡ false → slotAt (withSlot (w .endpoint) i s) j .paused ≡ flagBy n j
       at (this q) = rw (q, slot-this i is v s) (λ x. unmoved n lo w on i is s (k x .0) (k x .1) x)
-      at (that q) = rw (q, slot-that i is v s) (unmoved n lo w on (otherSlot i) (other-most i) (slotAt (w .endpoint) (otherSlot i)) refl refl)
+      at (that q) = rw (q, slot-that i is v s) (unmoved n lo w on (otherSlot i) (other-most i) (slotAt (w .endpoint) (otherSlot i)) refl (λ q. q))
 
   ground-least : {n : ℕ} → Ground w₀ p n → 2 ≤ n
   ground-least (in-table _ lo _) = omega arith
+  ground-least (of-control _ _) = omega arith
   ground-least (of-no-slot _ _) = omega arith
 
   break-least : {n : ℕ} → Break w₀ p n → 2 ≤ n
@@ -250,11 +214,11 @@ module _ (w₀ : World) (p : List ℕ) (trace : ℕ → Trace) (s₀ : Sound w�
 
   refuse : (w : World) (n : ℕ) → 2 ≤ n → On w → Moves (refused w n)
   unfolding refused
-  refuse w n lo on j js = unmoved n lo w on j js (slotAt (w .endpoint) j) refl refl
+  refuse w n lo on j js = unmoved n lo w on j js (slotAt (w .endpoint) j) refl (λ q. q)
 
   busying : (w : World) (i : ℕ) → Busy w₀ p w i → On w → Moves (refusedBusy w i)
   unfolding refusedBusy
-  busying w i b on = one-moves w on i 20 (b .slot-is) (omega arith) (withBusy (slotAt (w .endpoint) i) true) (λ _. (refl, refl))
+  busying w i b on = one-moves w on i 20 (b .slot-is) (omega arith) (withBusy (slotAt (w .endpoint) i) true) (λ _. (refl, λ q. q))
 
   dropping : (w : World) (i n : ℕ) → Break w₀ p n → Gathering w₀ p w i → On w → Moves (refused (dropped w i) n)
   unfolding refused
@@ -353,6 +317,16 @@ module _ (w₀ : World) (p : List ℕ) (trace : ℕ → Trace) (s₀ : Sound w�
   -- ---- a control primitive that is neither Pause nor Resume
 
   module _ (no-pause : isPrimitive 0 (w₀ .endpoint .eid) p ≡ false) (no-resume : isPrimitive 1 (w₀ .endpoint .eid) p ≡ false) where
+    replay-moves : (w : World) → On w → (i : ℕ) → i ≤ 1 → (k : ℕ) → k ≤ 1 → isIdleNow (slotAt (replay (w .endpoint) i .endpoint) k .phase) ≡ false
+        → slotAt (replay (w .endpoint) i .endpoint) k .paused ≡ flagBy 2 k
+    unfolding replay
+    replay-moves w on i is k ks = by (heldIn (phaseAt w i)) refl
+      where
+        by : (x : Held) → heldIn (phaseAt w i) ≡ x → isIdleNow (slotAt (replayed (w .endpoint) i x .endpoint) k .phase) ≡ false
+            → slotAt (replayed (w .endpoint) i x .endpoint) k .paused ≡ flagBy 2 k
+        by NoResponse e = unmoved 2 (omega arith) w on k ks (slotAt (w .endpoint) k) refl (λ q. q)
+        by (Last r) e = one-moves w on i 2 is (omega arith) (withPhase (slotAt (w .endpoint) i) (Transmit (outgoing r 0))) (λ _. (refl, λ q. held-not (sym q ∙ held-idle (phaseAt w i) r e))) k ks
+
     primitive-moves : (w : World) → On w → (opcode i : ℕ) (clear : Bool) → i ≤ 1 → (eqb opcode 0 ≡ true → ⊥) → (eqb opcode 1 ≡ true → ⊥)
         → (k : ℕ) → k ≤ 1 → isIdleNow (slotAt (primitive (w .endpoint) opcode i clear .endpoint) k .phase) ≡ false
         → slotAt (primitive (w .endpoint) opcode i clear .endpoint) k .paused ≡ flagBy 2 k
@@ -364,30 +338,33 @@ module _ (w₀ : World) (p : List ℕ) (trace : ℕ → Trace) (s₀ : Sound w�
         (λ _.
         if-ind Kept (eqb opcode 2) (λ _. one-moves w on i 2 is (omega arith) (idled (slotAt (w .endpoint) i)) (λ x. false-true (sym x)) k ks)
         (λ _.
+        if-ind Kept (eqb opcode 3)
+        (λ _.
         if-ind (λ (f : Endpoint). isIdleNow (slotAt f k .phase) ≡ false → slotAt f k .paused ≡ flagBy 2 k) clear
-        (λ _. one-moves w on i 2 is (omega arith) (withBusy (slotAt (w .endpoint) i) false) (λ _. (refl, refl)) k ks)
-        (λ _. unmoved 2 (omega arith) w on k ks (slotAt (w .endpoint) k) refl refl))))
+        (λ _. one-moves w on i 2 is (omega arith) (withBusy (slotAt (w .endpoint) i) false) (λ _. (refl, λ q. q)) k ks)
+        (λ _. unmoved 2 (omega arith) w on k ks (slotAt (w .endpoint) k) refl (λ q. q)))
+        (λ _. replay-moves w on i is k ks))))
       where
         Kept : Acted → Type 0
         Kept x = isIdleNow (slotAt (x .endpoint) k .phase) ≡ false → slotAt (x .endpoint) k .paused ≡ flagBy 2 k
 
     control : (w : World) → Controls w₀ p → On w → Moves (outcome 2 (withEndpoint w (controlled (w .endpoint) (fields p) (messageHeader (payloadOf p)) (payloadOf p))))
     unfolding controlled
-    control w c on k ks = go (controlFault (messageHeader (payloadOf p)) (opcodeOf (payloadOf p))) refl
+    control w c on k ks = go (controlFault (messageHeader (payloadOf p)) (opcodeOf (payloadOf p)) (noParameter (payloadOf p))) refl
       where
-        other : (n : ℕ) → isPrimitive n (w₀ .endpoint .eid) p ≡ false → controlFault (messageHeader (payloadOf p)) (opcodeOf (payloadOf p)) ≡ NoFault
+        other : (n : ℕ) → isPrimitive n (w₀ .endpoint .eid) p ≡ false → controlFault (messageHeader (payloadOf p)) (opcodeOf (payloadOf p)) (noParameter (payloadOf p)) ≡ NoFault
             → eqb (opcodeOf (payloadOf p)) n ≡ true → ⊥
         other n absent f e =
             let q : opcodeOf (payloadOf p) ≡ n = eqb-true (opcodeOf (payloadOf p)) n e in
             false-true (sym absent ∙ sym (ap (λ (x : ℕ). isPrimitive x (w₀ .endpoint .eid) p) q) ∙ is-primitive w₀ p c f)
 
-        go : (f : Fault) → controlFault (messageHeader (payloadOf p)) (opcodeOf (payloadOf p)) ≡ f
+        go : (f : Fault) → controlFault (messageHeader (payloadOf p)) (opcodeOf (payloadOf p)) (noParameter (payloadOf p)) ≡ f
             → isIdleNow (slotAt (controlledBy (w .endpoint) (fields p) (messageHeader (payloadOf p) .csi) (payloadOf p) f) k .phase) ≡ false
             → slotAt (controlledBy (w .endpoint) (fields p) (messageHeader (payloadOf p) .csi) (payloadOf p) f) k .paused ≡ flagBy 2 k
         go NoFault e =
             primitive-moves w on (opcodeOf (payloadOf p)) (messageHeader (payloadOf p) .csi) (clearsFlags (payloadOf p)) (csi-most (payloadOf p)) (other 0 no-pause e) (other 1 no-resume e) k ks
-        go (Parameter byte bit) e = unmoved 2 (omega arith) w on k ks (slotAt (w .endpoint) k) refl refl
-        go (Failure status) e = unmoved 2 (omega arith) w on k ks (slotAt (w .endpoint) k) refl refl
+        go (Parameter byte bit) e = unmoved 2 (omega arith) w on k ks (slotAt (w .endpoint) k) refl (λ q. q)
+        go (Failure status) e = unmoved 2 (omega arith) w on k ks (slotAt (w .endpoint) k) refl (λ q. q)
 
     the-walk : Walk w₀ p On Moves
     the-walk =
@@ -476,12 +453,12 @@ flags-so : (h : History) → Good h → (c : Call) (i : ℕ) → i ≤ 1
     (pausedAt (h .world) i && not (restarts i c (h .world) (step c (h .world) .event)))
 unfolding step
 flags-so h g (receive p) i is = received-told (h .world) p (h .trace) (g .sound) (g .fits) i is
-flags-so h g (take! j) i is = quiet-told (h .world) _ (step-sound (take! j) (h .world) (g .sound)) (taken-flagged (h .world .endpoint) (g .sound .state) j) i is
+flags-so h g (take! j) i is = quiet-told (h .world) _ (step-sound (take! j) (h .world) (g .sound)) (touched-flagged (h .world .endpoint) (taken (h .world .endpoint) j .endpoint) (take-touches (h .world .endpoint) (g .sound .state) j)) i is
 flags-so h g (read j) i is = quiet-told (h .world) _ (step-sound (read j) (h .world) (g .sound)) (λ k ks _. refl) i is
 flags-so h g (complete j t body) i is =
-    quiet-told (h .world) _ (step-sound (complete j t body) (h .world) (g .sound)) (completed-flagged (h .world) (g .sound .state) j t body) i is
+    quiet-told (h .world) _ (step-sound (complete j t body) (h .world) (g .sound)) (touched-flagged (h .world .endpoint) (completed (h .world) j t body .world .endpoint) (complete-touches (h .world) (g .sound .state) j t body)) i is
 flags-so h g (poll buffer) i is = quiet-told (h .world) _ (step-sound (poll buffer) (h .world) (g .sound)) (poll-flagged (h .world) (g .sound) buffer) i is
-flags-so h g (timeout j) i is = quiet-told (h .world) _ (step-sound (timeout j) (h .world) (g .sound)) (timed-out-flagged (h .world .endpoint) (g .sound .state) j) i is
+flags-so h g (timeout j) i is = quiet-told (h .world) _ (step-sound (timeout j) (h .world) (g .sound)) (touched-flagged (h .world .endpoint) (timedOut (h .world .endpoint) j .endpoint) (timeout-touches (h .world .endpoint) (g .sound .state) j)) i is
 flags-so h g reset i is = quiet-told (h .world) _ (step-sound reset (h .world) (g .sound)) (reset-flagged (h .world .endpoint)) i is
 
 pub flags-move : FlagsMove

@@ -10,7 +10,7 @@ use lib.ListN.{length, take, drop}
 use lib.Seq.{take-append-seam}
 use borrow.Author.Tests.{eq-eqb, ne-eqb, ltb-true, ltb-false, leb-true, le-leb, not-true}
 use Rattle.lent.specs.Choice.{if_then_else_}
-use Rattle.lent.proofs.Choice.{if-ind, if-second, false-true, and-both, differ}
+use Rattle.lent.proofs.Choice.{if-ind, if-second, false-true, and-both, differ, not-and}
 use Rattle.mctp.specs.Cut.{packets, payload, packet}
 use Rattle.mctp.proofs.Laws.{payload-next}
 use Rattle.machine.specs.State.{World, slotAt, storeAt, withSlot, withEndpoint, replySent, packetSent}
@@ -20,7 +20,7 @@ use Rattle.machine.specs.Valid.{Valid, Sound}
 use Rattle.machine.specs.Calls.{poll, number, handed-out, Stepped, stepped, byPoll, step}
 use Rattle.machine.specs.History.{Trace, phaseAt, pausedAt, isTransmit, moved, sending, transmitted, traceAfter, counts}
 use Rattle.machine.specs.Demands.{isProcess}
-use Rattle.machine.specs.Types.{Outgoing, Phase, Idle, Receive, Process, Answered, Transmit, Slot, Ready, Nothing, From}
+use Rattle.machine.specs.Types.{Outgoing, Last, Phase, Idle, Receive, Process, Answered, Transmit, Slot, Ready, Nothing, From}
 use Rattle.machine.proofs.Slots.{other-most}
 use Rattle.machine.proofs.Receiving.{right-stores}
 use Rattle.machine.proofs.Keeps.{Chosen, chosen-at}
@@ -102,15 +102,11 @@ poll-case w buffer s =
 -- ---- what the trace gains of a packet
 
 pub moved-same : (p : Phase) → moved p p ≡ false
-moved-same Idle = refl
+moved-same (Idle held) = refl
 moved-same (Receive a) = refl
 moved-same (Process r) = refl
 moved-same (Answered r) = refl
 moved-same (Transmit r) = rw (eq-eqb (r .sent) (r .sent) refl) refl
-
-not-and : (b : Bool) → (not b && b) ≡ false
-not-and true = refl
-not-and false = refl
 
 -- a slot that did not move
 pub unmoved : (p q : Phase) (bytes : List ℕ) (l : Trace) → q ≡ p → transmitted p q (handed-out bytes) l ≡ l
@@ -119,7 +115,7 @@ unmoved p q bytes l e = rw (e, not-and (isTransmit p), moved-same p) refl
 -- the slot whose packet went
 -- a phase that slot i's packet leads to
 pub data Onward (r : Outgoing) : Phase → Type 0 where
-  done : Onward r Idle
+  done : Onward r (Idle (Last (r .response)))
   more : Onward r (Transmit (advanced r))
 
 pub onward : (s : Slot) (r : Outgoing) → Onward r (afterPacket s r .phase)
@@ -154,7 +150,7 @@ module _ (w : World) (i : ℕ) (r : Outgoing) (l : Trace) (g : Going r (storeAt 
   sentTrace = sending l (l .packets + 1) (l .payloads ++ drop 4 (commandPacket w i r))
 
   onward-fits : {q : Phase} → Onward r q → FitP q (storeAt w i) sentTrace
-  onward-fits done = tt
+  onward-fits done = record { held = g .full .held; size = g .full .size; to = g .full .to; under = g .full .under }
   onward-fits more =
       record {
         full = record { held = g .full .held; size = g .full .size; to = g .full .to; under = g .full .under };

@@ -21,22 +21,22 @@ use Rattle.nvme_mi.proofs.Laws.{length-response}
 use Rattle.nvme_mi.specs.declared.MessageHeader.{MessageHeader}
 use Rattle.nvme_mi.specs.declared.Fault.{Fault}
 use Rattle.nvme_mi.specs.declared.Fault.the-variants.{NoFault, Parameter, Failure}
-use Rattle.machine.specs.State.{World, Outcome, outcome, slotAt, storeAt, withSlot, withStore, withEndpoint, onSlot, withPhase, withBusy, idled, isIdle, settled, nextTicket}
-use Rattle.machine.specs.Wire.{unit, store-size, response-place, opcodeOf, clearsFlags}
-use Rattle.machine.specs.Control.{pausedSlot, pause, resumedSlot, released as releasedPhase, resume, abort, clearFlags, primitive, controlledBy, controlled}
+use Rattle.machine.specs.State.{World, Outcome, outcome, outgoing, slotAt, storeAt, withSlot, withStore, withEndpoint, onSlot, withPhase, withBusy, idled, heldIn, isIdle, settled, nextTicket}
+use Rattle.machine.specs.Wire.{unit, store-size, response-place, opcodeOf, noParameter, clearsFlags}
+use Rattle.machine.specs.Control.{pausedSlot, pause, resumedSlot, released as releasedPhase, resume, abort, clearFlags, replayed, replay, primitive, controlledBy, controlled}
 use Rattle.machine.specs.Process.{request, processing, responseTo, responded, respondedAtOnce, pausedIf, entered as enteredWorld}
 use Rattle.machine.specs.Receive.{refused, refusedBusy, dropped, gathers, endedSlot, endAssembly, received}
 use Rattle.machine.specs.Poll.{otherSlot}
 use Rattle.machine.specs.Valid.{Valid, Sound}
 use Rattle.machine.specs.Calls.{Call, receive, number, Stepped, byOutcome}
 use Rattle.machine.specs.History.{Trace, phaseAt, hasSom, sourceOf, messageTagOf, isTransmit, isFor, requestWith, responseFor, fixedAtEntry, gaining, entering, commanded, transmitted, traceAfter, isPrimitive, isAbort, cuts}
-use Rattle.machine.specs.Types.{Request, Phase, Idle, Receive, Process, Answered, Transmit, Slot, Endpoint, Acted}
-use Rattle.machine.proofs.Slots.{isEarly, other-most}
-use Rattle.machine.proofs.Receiving.{Origin, opens, goes-on, Joining, filled, grown, whole, Controls, Ground, in-table, of-no-slot, Busy, Gathering, Break, in-sequence, in-size, in-total, Walk, csi-most, receives-gathers, walked}
+use Rattle.machine.specs.Types.{Request, Response, Held, NoResponse, Last, Phase, Idle, Receive, Process, Answered, Transmit, Slot, Endpoint, Acted}
+use Rattle.machine.proofs.Slots.{isEarly, held-idle, held-not, other-most}
+use Rattle.machine.proofs.Receiving.{Origin, opens, goes-on, Joining, filled, grown, whole, Controls, Ground, in-table, of-control, of-no-slot, Busy, Gathering, Break, in-sequence, in-size, in-total, Walk, csi-most, receives-gathers, walked}
 use Rattle.machine.proofs.Primitives.{is-primitive}
 use Rattle.machine.proofs.Keeps.{sound-endpoint, store-at, kept-quiet, pause-valid, end-valid}
 use Rattle.machine.proofs.Places.{Frame, Which, this, that, which, other-differs, slot-this, slot-that, slot-both, store-this, store-that, take-joined}
-use Rattle.machine.proofs.Fits.{Fit, entered, stayed, newly, Carried, quiet-other, refusal-trace, carried-same, carried-ended, carried-cut, carried-released, carried-settled, settled-begun, settled-late, next-ticket, response-is, atEntry, fixed-is}
+use Rattle.machine.proofs.Fits.{Fit, entered, stayed, newly, Carried, quiet-other, refusal-trace, carried-same, carried-ended, carried-cut, carried-released, carried-replayed, carried-settled, settled-begun, settled-late, next-ticket, response-is, atEntry, fixed-is}
 
 -- what a call does to both slots, with the traces before it, and to what polling goes by
 pub record Carries (c : Call) (w : World) (trace : ℕ → Trace) (s : Stepped) : Type 0 where
@@ -52,7 +52,7 @@ module _ (w₀ : World) (packet : List ℕ) (trace : ℕ → Trace) (s₀ : Soun
   -- on the way through Receiving: a slot is as it was, or its assembly has ended
   pub data MidPhase (p q : Phase) : Type 0 where
     kept : q ≡ p → MidPhase p q
-    ended : hasSom packet ≡ true → isEarly p ≡ true → q ≡ Idle → MidPhase p q
+    ended : hasSom packet ≡ true → isEarly p ≡ true → q ≡ Idle NoResponse → MidPhase p q
 
   pub record Mid (w : World) : Type 0 where
     pub sound : Sound w
@@ -91,6 +91,7 @@ module _ (w₀ : World) (packet : List ℕ) (trace : ℕ → Trace) (s₀ : Soun
   -- a refusal's number is never that of a packet that is taken in
   ground-least : {n : ℕ} → Ground w₀ packet n → 3 ≤ n
   ground-least (in-table _ lo _) = omega arith
+  ground-least (of-control _ _) = omega arith
   ground-least (of-no-slot _ _) = omega arith
 
   break-least : {n : ℕ} → Break w₀ packet n → 3 ≤ n
@@ -211,7 +212,7 @@ module _ (w₀ : World) (packet : List ℕ) (trace : ℕ → Trace) (s₀ : Soun
   for-this w i at m j = go (j .origin)
     where
       go : {n : ℕ} → Origin w₀ packet w i n → isFor i packet w₀ ≡ true
-      go (opens som e _) = rw som (eq-eqb (byteAt packet 5 % 2) i (csi-is ∙ sym e))
+      go (opens som e _ _) = rw som (eq-eqb (byteAt packet 5 % 2) i (csi-is ∙ sym e))
       go (goes-on som a ph fr _) =
           rw (som, receives-gathers (sourceOf packet) (messageTagOf packet) (phaseAt w₀ i), sym (phase-before w m i (j .slot-is) som), ph) fr
 
@@ -219,7 +220,7 @@ module _ (w₀ : World) (packet : List ℕ) (trace : ℕ → Trace) (s₀ : Soun
   for-that w i at m j = go (j .origin)
     where
       go : {n : ℕ} → Origin w₀ packet w i n → isFor (otherSlot i) packet w₀ ≡ false
-      go (opens som e _) = rw som (ne-eqb (byteAt packet 5 % 2) (otherSlot i) (λ k. other-differs i (j .slot-is) (sym k ∙ csi-is ∙ sym e)))
+      go (opens som e _ _) = rw som (ne-eqb (byteAt packet 5 % 2) (otherSlot i) (λ k. other-differs i (j .slot-is) (sym k ∙ csi-is ∙ sym e)))
       go (goes-on som a ph fr _) =
           rw (som, receives-gathers (sourceOf packet) (messageTagOf packet) (phaseAt w₀ (otherSlot i)), sym (phase-before w m (otherSlot i) (other-most i) som)) (j .alone)
 
@@ -241,7 +242,7 @@ module _ (w₀ : World) (packet : List ℕ) (trace : ℕ → Trace) (s₀ : Soun
       room h = rw (store-at i (m .sound)) (omega arith)
 
       go : {n : ℕ} → n + length (payloadOf packet) ≤ store-size → Origin w₀ packet w i n → take (n + length (payloadOf packet)) (put (storeAt w i) n (payloadOf packet)) ≡ requestWith packet (trace i)
-      go h (opens som e _) = rw som (take-joined (storeAt w i) 0 (payloadOf packet) (room h))
+      go h (opens som e _ _) = rw som (take-joined (storeAt w i) 0 (payloadOf packet) (room h))
       go h (goes-on som a ph fr _) =
           let before : take (a .length) (storeAt w₀ i) ≡ trace i .request =
           rw (sym (phase-before w m i (j .slot-is) som) ∙ ph) at (fits i (j .slot-is) .phase-fits) in
@@ -274,7 +275,7 @@ module _ (w₀ : World) (packet : List ℕ) (trace : ℕ → Trace) (s₀ : Soun
   -- ---- the command is whole
 
   early-silent : (p : Phase) → isEarly p ≡ true → isTransmit p ≡ false
-  early-silent Idle h = refl
+  early-silent (Idle held) h = refl
   early-silent (Receive a) h = refl
   early-silent (Process r) h = refl
   early-silent (Answered r) h = refl
@@ -341,7 +342,7 @@ module _ (w₀ : World) (packet : List ℕ) (trace : ℕ → Trace) (s₀ : Soun
     pub in-process : slotAt e₂ i .phase ≡ Process command
     in-process = alike .same-phase i (j .slot-is) ∙ rw this-at refl
 
-    that-phase : slotAt e₂ (otherSlot i) .phase ≡ phaseAt w (otherSlot i)
+    pub that-phase : slotAt e₂ (otherSlot i) .phase ≡ phaseAt w (otherSlot i)
     that-phase = alike .same-phase (otherSlot i) (other-most i) ∙ rw that-at refl
 
     that-ticket : slotAt e₂ (otherSlot i) .ticket ≡ slotAt (w .endpoint) (otherSlot i) .ticket
@@ -456,7 +457,7 @@ module _ (w₀ : World) (packet : List ℕ) (trace : ℕ → Trace) (s₀ : Soun
       plain a b = carried-same 2 (a ∙ b) (k ∙ q) (fits j js)
 
       go : (x : Phase) → t .phase ≡ releasedPhase x → x ≡ phaseAt w₀ j → Carried (Cut j) (slotAt (w₀ .endpoint) j) t (storeAt w₀ j) (trace j) (quietly j 2 t)
-      go Idle a b = plain a b
+      go (Idle held) a b = plain a b
       go (Receive x) a b = plain a b
       go (Process x) a b = plain a b
       go (Answered r) a b = carried-released 2 r (sym b) a (k ∙ q) (fits j js)
@@ -502,8 +503,34 @@ module _ (w₀ : World) (packet : List ℕ) (trace : ℕ → Trace) (s₀ : Soun
       ticket j (this q) = rw (q, slot-this i is v (withBusy (slotAt e i) false)) refl
       ticket j (that q) = rw (q, slot-that i is v (withBusy (slotAt e i) false)) refl
 
+  -- Replay
+  held-acts : (w : World) → Mid w → (i : ℕ) → i ≤ 1 → (r : Response) → phaseAt w i ≡ Idle (Last r) → Acts w (replayed (w .endpoint) i (Last r))
+  held-acts w m i is r e = record { frame = refl; each = λ j js. at j js (which i j is js) }
+    where
+      v : Valid (w .endpoint)
+      v = m .sound .state
+
+      s : Slot
+      s = withPhase (slotAt (w .endpoint) i) (Transmit (outgoing r 0))
+
+      this-one : MidPhase (phaseAt w₀ i) (phaseAt w i) → Carried (Cut i) (slotAt (w₀ .endpoint) i) s (storeAt w₀ i) (trace i) (quietly i 2 s)
+      this-one (kept q) = carried-replayed 2 r (sym q ∙ e) refl (m .tickets i is) (fits i is)
+      this-one (ended _ early q) = held-not (sym q ∙ e)
+
+      at : (j : ℕ) → j ≤ 1 → Which i j → Carried (Cut j) (slotAt (w₀ .endpoint) j) (slotAt (withSlot (w .endpoint) i s) j) (storeAt w₀ j) (trace j) (quietly j 2 (slotAt (withSlot (w .endpoint) i s) j))
+      at j js (this q) = rw (q, slot-this i is v s) (this-one (m .phases i is))
+      at j js (that q) = rw (q, slot-that i is v s) (mid-carried w m 2 (otherSlot i) (other-most i) (slotAt (w .endpoint) (otherSlot i)) refl refl)
+
+  replay-acts : (w : World) → Mid w → (i : ℕ) → i ≤ 1 → Acts w (replay (w .endpoint) i)
+  unfolding replay
+  replay-acts w m i is = go (heldIn (phaseAt w i)) refl
+    where
+      go : (k : Held) → heldIn (phaseAt w i) ≡ k → Acts w (replayed (w .endpoint) i k)
+      go NoResponse e = alike-acts w m _ (itself (w .endpoint))
+      go (Last r) e = held-acts w m i is r (held-idle (phaseAt w i) r e)
+
   -- a primitive with opcode 2 that passed its tests is an Abort in the document's words
-  is-abort : Controls w₀ packet → controlFault (messageHeader (payloadOf packet)) (opcodeOf (payloadOf packet)) ≡ NoFault
+  is-abort : Controls w₀ packet → controlFault (messageHeader (payloadOf packet)) (opcodeOf (payloadOf packet)) (noParameter (payloadOf packet)) ≡ NoFault
       → opcodeOf (payloadOf packet) ≡ 2 → Cut (messageHeader (payloadOf packet) .csi)
   is-abort c f o =
       let k : isPrimitive 2 eid₀ packet ≡ true = ap (λ (n : ℕ). isPrimitive n eid₀ packet) (sym o) ∙ is-primitive w₀ packet c f in
@@ -518,12 +545,14 @@ module _ (w₀ : World) (packet : List ℕ) (trace : ℕ → Trace) (s₀ : Soun
       (λ _.
       if-ind (Acts w) (eqb opcode 2) (λ two. abort-acts w m i _ is (c (eqb-true opcode 2 two)))
       (λ _.
-      alike-acts w m _ (if-ind (Alike (w .endpoint)) clear (λ _. clear-alike (w .endpoint) (m .sound .state) i is) (λ _. itself (w .endpoint))))))
+      if-ind (Acts w) (eqb opcode 3)
+      (λ _. alike-acts w m _ (if-ind (Alike (w .endpoint)) clear (λ _. clear-alike (w .endpoint) (m .sound .state) i is) (λ _. itself (w .endpoint))))
+      (λ _. replay-acts w m i is))))
 
   control : (w : World) → Controls w₀ packet → Mid w
       → Ends (outcome 2 (withEndpoint w (controlled (w .endpoint) (fields packet) (messageHeader (payloadOf packet)) (payloadOf packet))))
   unfolding controlled
-  control w c m = go (controlFault (messageHeader (payloadOf packet)) (opcodeOf (payloadOf packet))) refl
+  control w c m = go (controlFault (messageHeader (payloadOf packet)) (opcodeOf (payloadOf packet)) (noParameter (payloadOf packet))) refl
     where
       mh : MessageHeader
       mh = messageHeader (payloadOf packet)
@@ -536,7 +565,7 @@ module _ (w₀ : World) (packet : List ℕ) (trace : ℕ → Trace) (s₀ : Soun
             carried = λ j js. rw (m .stores j) (mid-carried w m 2 j js (slotAt (w .endpoint) j) refl refl);
           }
 
-      go : (f : Fault) → controlFault (messageHeader (payloadOf packet)) (opcodeOf (payloadOf packet)) ≡ f
+      go : (f : Fault) → controlFault (messageHeader (payloadOf packet)) (opcodeOf (payloadOf packet)) (noParameter (payloadOf packet)) ≡ f
           → Ends (outcome 2 (withEndpoint w (controlledBy (w .endpoint) (fields packet) (messageHeader (payloadOf packet) .csi) (payloadOf packet) f)))
       go NoFault e =
           let a = primitive-acts w m (opcodeOf (payloadOf packet)) (messageHeader (payloadOf packet) .csi) (clearsFlags (payloadOf packet)) (csi-most (payloadOf packet)) (is-abort c e) in
@@ -568,7 +597,7 @@ module _ (w₀ : World) (packet : List ℕ) (trace : ℕ → Trace) (s₀ : Soun
 
   -- an assembly under this source and tag ends
   gathers-early : (source tag : ℕ) (p : Phase) → gathers source tag p ≡ true → isEarly p ≡ true
-  gathers-early source tag Idle h = refl
+  gathers-early source tag (Idle held) h = refl
   gathers-early source tag (Receive a) h = refl
   gathers-early source tag (Process r) h = h
   gathers-early source tag (Answered r) h = h

@@ -107,7 +107,7 @@ right-stores w s = rw (s .size0, s .size1) refl
 
 -- the history's words for an assembly are the machine's
 pub receives-gathers : (source tag : ℕ) (p : Phase) → receivesFrom source tag p ≡ gathers source tag p
-receives-gathers source tag Idle = refl
+receives-gathers source tag (Idle held) = refl
 receives-gathers source tag (Receive a) = refl
 receives-gathers source tag (Process r) = refl
 receives-gathers source tag (Answered r) = refl
@@ -128,7 +128,7 @@ module _ (w₀ : World) (packet : List ℕ) where
 
   -- where the payload of a command's packet goes: at the start of the slot that CSI names, or behind the bytes of the assembly that it joins
   pub data Origin (w : World) (i : ℕ) : ℕ → Type 0 where
-    opens : hasSom packet ≡ true → i ≡ byteAt message 1 % 2 → isCut unit header (length message) ≡ false → Origin w i 0
+    opens : hasSom packet ≡ true → i ≡ byteAt message 1 % 2 → isCut unit header (length message) ≡ false → eqb (messageHeader message .nmimt) control ≡ false → Origin w i 0
     goes-on : hasSom packet ≡ false → (a : Assembly) → slotAt (w .endpoint) i .phase ≡ Receive a
         → isFrom (header .source) (header .tag) a ≡ true → joinRefusal unit store-size (a .sequence) (a .length) header (length message) ≡ 0 → Origin w i (a .length)
 
@@ -162,9 +162,11 @@ module _ (w₀ : World) (packet : List ℕ) where
     pub kind : messageHeader message .nmimt ≡ control
     pub right : checkRight message ≡ true
 
-  -- where a packet is refused without its slot: by the second table, or because no slot is in Receive with its source and tag
+  -- where a packet is refused without its slot: by the second table, for a control primitive's check, or because no slot is in Receive with its source
+  -- and tag
   pub data Ground : ℕ → Type 0 where
-    in-table : {n : ℕ} → hasSom packet ≡ true → 15 ≤ n → n ≤ 19 → Ground n
+    in-table : {n : ℕ} → hasSom packet ≡ true → 15 ≤ n → n ≤ 18 → Ground n
+    of-control : hasSom packet ≡ true → messageHeader message .nmimt ≡ control → Ground 19
     of-no-slot : hasSom packet ≡ false → ((i : ℕ) → i ≤ 1 → gathers (header .source) (header .tag) (slotAt (w₀ .endpoint) i .phase) ≡ false) → Ground 21
 
   -- 20: a command's first packet, and the slot that its CSI names is not Idle
@@ -241,9 +243,9 @@ module _ (w₀ : World) (packet : List ℕ) (P : World → Type 0) (Q : Outcome 
   Free w = (i : ℕ) → i ≤ 1 → gathers (H .source) (H .tag) (slotAt (w .endpoint) i .phase) ≡ false
 
   command-walk : (w : World) → readHeader (w₀ .endpoint .eid) unit inward packet ≡ Packet H → Free w → H .som ≡ true → length M ≤ unit
-      → isCut unit H (length M) ≡ false → (H .eom ≡ true → smallest ≤ length M) → (H .eom ≡ false → length M ≡ unit) → P w → Q (firstCommand w H (messageHeader M .csi) M)
+      → isCut unit H (length M) ≡ false → eqb (messageHeader M .nmimt) control ≡ false → (H .eom ≡ true → smallest ≤ length M) → (H .eom ≡ false → length M ≡ unit) → P w → Q (firstCommand w H (messageHeader M .csi) M)
   unfolding firstCommand
-  command-walk w read-so free som hi cut last more p =
+  command-walk w read-so free som hi cut kind last more p =
       let i = messageHeader M .csi in
       let is = csi-most M in
       if-ind Q (not (isIdle (slotAt (w .endpoint) i .phase)))
@@ -256,7 +258,7 @@ module _ (w₀ : World) (packet : List ℕ) (P : World → Type 0) (Q : Outcome 
         alone = free (otherSlot i) (other-most i);
         read-so = read-so;
         fits = omega arith;
-        origin = opens som refl cut;
+        origin = opens som refl cut kind;
       })
       (λ e. omega (arith, last e)) (λ e. omega (arith, more e)) p)
 
@@ -272,11 +274,11 @@ module _ (w₀ : World) (packet : List ℕ) (P : World → Type 0) (Q : Outcome 
       if-ind R (not (same (messageHeader M .ror) false)) (λ _. k .refusing w wrong-message (in-table som (omega arith) (omega arith)) p)
       (λ request.
       if-ind R (not (eqb (messageHeader M .nmimt) control))
-      (λ _. command-walk w read-so free som hi cut (whole-message H (length M) short) (full-unit H (length M) cut) p)
+      (λ kind. command-walk w read-so free som hi cut (not-true (eqb (messageHeader M .nmimt) control) kind) (whole-message H (length M) short) (full-unit H (length M) cut) p)
       (λ kind.
       if-ind R (not (H .eom) || not (eqb (length M) control-size)) (λ _. k .refusing w not-twelve (in-table som (omega arith) (omega arith)) p)
       (λ one.
-      if-ind R (not (checkRight M)) (λ _. k .refusing w check-wrong (in-table som (omega arith) (omega arith)) p)
+      if-ind R (not (checkRight M)) (λ _. k .refusing w check-wrong (of-control som (eqb-true (messageHeader M .nmimt) control (not-false (eqb (messageHeader M .nmimt) control) kind))) p)
       (λ right.
       k .controlling w
       (record {

@@ -22,9 +22,9 @@ use Rattle.machine.specs.Calls.{receive, take!, read, complete, poll, ti
 use Rattle.machine.specs.History.{hasSom, sourceOf, messageTagOf, phaseAt, receivesFrom, isFor}
 use Rattle.machine.specs.Numbers.{rightSizes}
 use Rattle.machine.specs.Demands.{isIdleNow}
-use Rattle.machine.specs.Refusals.{FlagColumn, assemblyEnded, placeIn, stored, Leaves, unread, tabled, busy, unknown, broken, failed, RefusedPacket, WrongStores, RefusedCall, isOneOf, Named}
+use Rattle.machine.specs.Refusals.{FlagColumn, assemblyEnded, placeIn, stored, isCommand, Leaves, unread, tabled, unstored, busy, unknown, broken, failed, RefusedPacket, WrongStores, RefusedCall, isOneOf, Named}
 use Rattle.machine.specs.Types.{Ticket, Taking, Untaken, Taken, Request, Phase, Idle, Receive, Process, Answered, Transmit, Endpoint, Done, TakeDone, Ready, Nothing, From}
-use Rattle.machine.proofs.Receiving.{receives-gathers, Origin, opens, goes-on, Joining, filled, Ground, in-table, of-no-slot, Busy, Gathering, Break, in-sequence, in-size, in-total, Walk, walked}
+use Rattle.machine.proofs.Receiving.{receives-gathers, Origin, opens, goes-on, Joining, filled, Ground, in-table, of-control, of-no-slot, Busy, Gathering, Break, in-sequence, in-size, in-total, Walk, walked}
 use Rattle.machine.proofs.Numbers.{wrong-sizes}
 use Rattle.machine.proofs.Keeps.{sound-endpoint, sound-of, end-valid}
 
@@ -35,7 +35,7 @@ flag-column = refl
 -- ---- receiving
 
 pub idle-now : (p : Phase) → isIdleNow p ≡ isIdle p
-idle-now Idle = refl
+idle-now (Idle held) = refl
 idle-now (Receive a) = refl
 idle-now (Process r) = refl
 idle-now (Answered r) = refl
@@ -66,6 +66,7 @@ module _ (w₀ : World) (p : List ℕ) (s₀ : Sound w₀) where
   refuses : (w : World) (n : ℕ) → Ground w₀ p n → At w → Told (refused w n)
   unfolding refused
   refuses w n (in-table som lo hi) a _ = rw (a .is) (tabled som lo hi)
+  refuses w _ (of-control som kind) a _ = rw (a .is) (unstored som kind)
   refuses w _ (of-no-slot som none) a _ =
       rw (a .is ∙ without som) (unknown som (λ i is. receives-gathers (sourceOf p) (messageTagOf p) (phaseAt w₀ i) ∙ none i is))
 
@@ -91,20 +92,20 @@ module _ (w₀ : World) (p : List ℕ) (s₀ : Sound w₀) where
       go (in-total som) = unfold refused in (rw (a .is ∙ without som) (broken i som (here som) (g .slot-is) refl))
 
   -- a command's packet goes to its slot, at its place
-  its-slot : (w : World) (i : ℕ) {n : ℕ} → At w → Origin w₀ p w i n → (isFor i p w₀ ≡ true) × (n ≡ placeIn p (phaseAt w₀ i))
-  its-slot w i a (opens som e _) = (rw (som, e, getD-drop 4 p 1 0) (eq-eqb (byteAt p 5 % 2) (byteAt p 5 % 2) refl), rw som refl)
+  its-slot : (w : World) (i : ℕ) {n : ℕ} → At w → Origin w₀ p w i n → (isFor i p w₀ ≡ true) × (n ≡ placeIn p (phaseAt w₀ i)) × (isCommand p ≡ true)
+  its-slot w i a (opens som e _ kind) = (rw (som, e, getD-drop 4 p 1 0) (eq-eqb (byteAt p 5 % 2) (byteAt p 5 % 2) refl), rw som refl, rw (som, kind) refl)
   its-slot w i a (goes-on som x ph fr _) =
       let q : phaseAt w₀ i ≡ Receive x = rw (sym (without som), sym (a .is)) ph in
-      (rw (som, q) fr, rw (som, q) refl)
+      (rw (som, q) fr, rw (som, q) refl, rw som refl)
 
   fails : (w : World) (i at : ℕ) → Joining w₀ p w i at → At w → Told (refused (dropped (filled w₀ p w i at) i) 19)
   unfolding refused
   fails w i at j a _ =
       let k = its-slot w i a (j .origin) in
-      left (filled w₀ p w i at) (rw (a .is, k .1) refl) (k .0)
+      left (filled w₀ p w i at) (rw (a .is, k .1) refl) (k .0) (k .2)
     where
-      left : (v : World) → v ≡ stored w₀ i p → isFor i p w₀ ≡ true → Leaves w₀ p 19 (refused (dropped v i) 19 .world)
-      left v e mine = unfold refused in (rw e (failed i mine (j .slot-is)))
+      left : (v : World) → v ≡ stored w₀ i p → isFor i p w₀ ≡ true → isCommand p ≡ true → Leaves w₀ p 19 (refused (dropped v i) 19 .world)
+      left v e mine command = unfold refused in (rw e (failed i mine (j .slot-is) command))
 
   the-walk : Walk w₀ p At Told
   unfolding refused
@@ -164,7 +165,7 @@ take-unchanged e i n = if-ind Unchanged (not (isSlot i)) (λ _ _. refl) (λ _. f
     row r Taken q = refl
 
     from : (p : Phase) → Unchanged (takenFrom e i p)
-    from Idle q = refl
+    from (Idle held) q = refl
     from (Receive a) q = refl
     from (Process r) q = row r (r .taking) q
     from (Answered r) q = refl
@@ -183,7 +184,7 @@ complete-unchanged w i t body =
     row r Taken = if-ind Unchanged (not (isBody body)) (λ _ _. refl) (λ _ h. absurd (omega arith))
 
     into : (p : Phase) → Unchanged (completedIn w i t body p)
-    into Idle = λ _. refl
+    into (Idle held) = λ _. refl
     into (Receive a) = λ _. refl
     into (Process r) = if-ind Unchanged (not (isPresent t (slotAt (w .endpoint) i))) (λ _ _. refl) (λ _. row r (r .taking))
     into (Answered r) = λ _. refl
@@ -253,6 +254,7 @@ module _ (w₀ : World) (p : List ℕ) (s₀ : Sound w₀) where
 
   ground-named : (n : ℕ) → Ground w₀ p n → In receiving n
   ground-named n (in-table _ lo hi) = refusal-named n (omega arith) (omega arith)
+  ground-named _ (of-control _ _) = refl
   ground-named _ (of-no-slot _ _) = refl
 
   break-named : (n : ℕ) → Break w₀ p n → In receiving n
@@ -298,7 +300,7 @@ take-named e i n = if-ind Says (not (isSlot i)) (λ _ q. listed 30 q refl) (λ _
     row r Taken = λ q. listed 33 q refl
 
     from : (p : Phase) → Says (takenFrom e i p)
-    from Idle = λ q. listed 31 q refl
+    from (Idle held) = λ q. listed 31 q refl
     from (Receive a) = λ q. listed 31 q refl
     from (Process r) = row r (r .taking)
     from (Answered r) = λ q. listed 31 q refl
@@ -319,7 +321,7 @@ complete-named w i t body = if-ind Says (wrongStores w) (λ _. refl) (λ _. if-i
     row r Taken = if-ind Says (not (isBody body)) (λ _. refl) (λ _. refl)
 
     into : (p : Phase) → Says (completedIn w i t body p)
-    into Idle = refl
+    into (Idle held) = refl
     into (Receive a) = refl
     into (Process r) = if-ind Says (not (isPresent t (slotAt (w .endpoint) i))) (λ _. refl) (λ _. row r (r .taking))
     into (Answered r) = refl

@@ -13,7 +13,7 @@ use lib.Seq.{take-append-seam}
 use borrow.Author.Tests.{le-ltb, eq-eqb, ne-eqb, eqb-true, eqb-false, ltb-true, ltb-false, leb-true, not-true, not-false}
 use Rattle.lent.specs.Choice.{if_then_else_}
 use Rattle.lent.specs.Bytes.{byteAt, isSet}
-use Rattle.lent.proofs.Choice.{if-ind, false-true, and-both}
+use Rattle.lent.proofs.Choice.{if-ind, false-true, and-both, and-false}
 use Rattle.mctp.specs.Header.{readHeader, same, fields, payloadOf}
 use Rattle.mctp.specs.Gather.{isCut}
 use Rattle.mctp.specs.declared.Read.the-variants.{Packet}
@@ -25,9 +25,9 @@ use Rattle.nvme_mi.specs.Response.{response, faultBody}
 use Rattle.nvme_mi.specs.declared.MessageHeader.{MessageHeader}
 use Rattle.nvme_mi.specs.declared.Fault.{Fault}
 use Rattle.nvme_mi.specs.declared.Fault.the-variants.{NoFault, Parameter, Failure}
-use Rattle.machine.specs.State.{World, Outcome, slot, slotAt, withSlot, withEndpoint, withBusy, idled, replySent, packetSent}
+use Rattle.machine.specs.State.{World, Outcome, slot, slotAt, withSlot, withEndpoint, withPhase, withBusy, idled, heldIn, outgoing, replySent, packetSent}
 use Rattle.machine.specs.Wire.{unit, packet-room, inward, wrongStores, opcodeOf, clearsFlags}
-use Rattle.machine.specs.Control.{bit, pausedSlot, pause, pauseWord, released, resumedSlot, resume, takenWord, abortWord, abort, stateNumber, stateWord, clearFlags, acted, primitive, replied, controlledBy, controlled}
+use Rattle.machine.specs.Control.{bit, pausedSlot, pause, pauseWord, released, resumedSlot, resume, takenWord, abortWord, abort, stateNumber, stateWord, clearFlags, replayed, replay, acted, primitive, replied, controlledBy, controlled}
 use Rattle.machine.specs.Process.{request, processing, responded, respondedAtOnce, pausedIf, entered}
 use Rattle.machine.specs.Receive.{refused, refusedBusy, endedSlot, endAssembly, firstBy, first, received}
 use Rattle.machine.specs.Finish.{isSlot, takenRow, takenFrom, taken, isBody, isPresent, completedRow, completedIn, completed, isReceive, timedOut, wasReset}
@@ -36,11 +36,11 @@ use Rattle.machine.specs.Valid.{PhaseFacts, ValidFlags, Valid, Sound}
 use Rattle.machine.specs.Calls.{Call, receive, take!, read, complete, poll, timeout, reset, number, handed-out, Stepped, stepped, byOutcome, takeEvent, byPoll, step}
 use Rattle.machine.specs.History.{hasSom, sourceOf, messageTagOf, bytesFrom4, phaseAt, moved, one?, run, start, controlTests, isControl, isPrimitive, isAbort, cuts}
 use Rattle.machine.specs.Demands.{isIdleNow, replyPacket, AbortIdles}
-use Rattle.machine.specs.Replies.{PrimitiveDone, csiOf, isError, slotFound, worth, abortedProcess, abortedIn, stateOf, cpsrOf, bodyOf, unpaused, actedOn, flagsAfter, Replied, ControlReplied, isControlOut, SameReply, ReplyAfter, stays, goes, newer, was-reset, ReplyStays, ReplyFate, replaced, sent, replaces, hasRoom, replyFate, GoesWithin, ReplyGoes}
-use Rattle.machine.specs.Types.{Ticket, Assembly, Taking, Untaken, Taken, Request, Outgoing, Phase, Idle, Receive, Process, Answered, Transmit, Slot, Endpoint, Done, TakeAnswer, TakeDone, Ready, Nothing, From, Acted}
+use Rattle.machine.specs.Replies.{PrimitiveDone, csiOf, noCpsp, wrongReplay, isError, slotFound, worth, abortedProcess, abortedIn, stateOf, cpsrOf, bodyOf, unpaused, sentAgain, actedOn, flagsAfter, Replied, ControlReplied, isControlOut, SameReply, ReplyAfter, stays, goes, newer, was-reset, ReplyStays, ReplyFate, replaced, sent, replaces, hasRoom, replyFate, GoesWithin, ReplyGoes}
+use Rattle.machine.specs.Types.{Ticket, Assembly, Taking, Untaken, Taken, Request, Outgoing, Held, NoResponse, Last, Phase, Idle, Receive, Process, Answered, Transmit, Slot, Endpoint, Done, TakeAnswer, TakeDone, Ready, Nothing, From, Acted}
 use Rattle.machine.specs.declared.TakeAnswer.the-variants.{Refused as TakeRefused, Given}
 use Rattle.machine.proofs.Slots.{facts-at}
-use Rattle.machine.proofs.Receiving.{filled, grown, whole, right-stores, Ground, in-table, of-no-slot, Break, in-sequence, in-size, in-total, Controls, Walk, walked, csi-most, receives-gathers}
+use Rattle.machine.proofs.Receiving.{filled, grown, whole, right-stores, Ground, in-table, of-control, of-no-slot, Break, in-sequence, in-size, in-total, Controls, Walk, walked, csi-most, receives-gathers}
 use Rattle.machine.proofs.Invariant.{Each, each}
 use Rattle.machine.proofs.Primitives.{is-control, acting}
 use Rattle.machine.proofs.Keeps.{sound-endpoint, end-valid, Chosen, ready-at, step-sound}
@@ -66,7 +66,7 @@ pause-word false true = refl
 pause-word false false = refl
 
 abort-word : (p : Phase) → abortWord p ≡ abortedIn p
-abort-word Idle = refl
+abort-word (Idle held) = refl
 abort-word (Receive a) = refl
 abort-word (Process r) = by (r .taking)
   where
@@ -78,8 +78,8 @@ abort-word (Transmit r) = refl
 
 -- the low four bits of the Get State word
 low-bits : (p : Phase) (b : Bool) → (bitOr (stateNumber p) (bit b 0x8) ≡ stateOf p + worth b 0x8) × (stateOf p + worth b 0x8 < 16)
-low-bits Idle true = (refl, omega arith)
-low-bits Idle false = (refl, omega arith)
+low-bits (Idle held) true = (refl, omega arith)
+low-bits (Idle held) false = (refl, omega arith)
 low-bits (Receive a) true = (refl, omega arith)
 low-bits (Receive a) false = (refl, omega arith)
 low-bits (Process r) true = (refl, omega arith)
@@ -116,14 +116,14 @@ paused-slot : (s : Slot) → PhaseFacts (s .paused) (s .phase) → pausedSlot s 
 paused-slot s f = by (s .phase) refl f
   where
     by : (p : Phase) → s .phase ≡ p → PhaseFacts (s .paused) p → pausedSlot s ≡ slot (s .ticket) (not (isIdleNow (s .phase))) (s .busy) (s .phase)
-    by Idle e k = rw (e, sym k) refl
+    by (Idle held) e k = rw (e, sym (k .0)) refl
     by (Receive a) e k = rw e refl
     by (Process r) e k = rw e refl
     by (Answered r) e k = rw e refl
     by (Transmit r) e k = rw e refl
 
 released-is : (p : Phase) → released p ≡ unpaused p
-released-is Idle = refl
+released-is (Idle held) = refl
 released-is (Receive a) = refl
 released-is (Process r) = refl
 released-is (Answered r) = refl
@@ -216,7 +216,37 @@ module _ (m : List ℕ) (w : World) (v : Valid (w .endpoint)) where
       by true s = refl
       by false s = refl
 
-  primitive-acts : ltb 3 (byteAt m 4) ≡ false → Acts (primitive (w .endpoint) (opcodeOf m) (messageHeader m .csi) (clearsFlags m))
+  replays : byteAt m 4 ≡ 4 → Acts (replay (w .endpoint) (csiOf m))
+  unfolding replay
+  replays o = by (heldIn (slotAt (w .endpoint) (csiOf m) .phase)) refl
+    where
+      by : (k : Held) → heldIn (slotAt (w .endpoint) (csiOf m) .phase) ≡ k → Acts (replayed (w .endpoint) (csiOf m) k)
+      by NoResponse e =
+          record {
+            word = rw (o, e) refl;
+            slots = λ j js. rw o (stays (which (csiOf m) j (csi-most m) js));
+            flags = rw o refl;
+            eid = refl;
+            turn = refl;
+            last = refl;
+          }
+        where
+          stays : {j : ℕ} → Which (csiOf m) j → slotAt (w .endpoint) j ≡ (if not (eqb j (csiOf m)) then slotAt (w .endpoint) j else sentAgain (heldIn (slotAt (w .endpoint) j .phase)) (slotAt (w .endpoint) j))
+          stays (this q) = rw (q, itself, e) refl
+          stays (that q) = rw (q, another) refl
+      by (Last r) e =
+          record {
+            word = rw (o, e) refl;
+            slots =
+                one-slot (withPhase (slotAt (w .endpoint) (csiOf m)) (Transmit (outgoing r 0))) (rw (o, itself) (ap (λ (k : Held). sentAgain k (slotAt (w .endpoint) (csiOf m))) e))
+                (rw (o, another) refl);
+            flags = rw o refl;
+            eid = refl;
+            turn = refl;
+            last = refl;
+          }
+
+  primitive-acts : ltb 4 (byteAt m 4) ≡ false → Acts (primitive (w .endpoint) (opcodeOf m) (messageHeader m .csi) (clearsFlags m))
   unfolding primitive
   primitive-acts known =
       if-ind Acts (eqb (byteAt m 4) 0) (λ z. pauses (eqb-true (byteAt m 4) 0 z))
@@ -225,15 +255,21 @@ module _ (m : List ℕ) (w : World) (v : Valid (w .endpoint)) where
       (λ not-1.
       if-ind Acts (eqb (byteAt m 4) 2) (λ z. aborts (eqb-true (byteAt m 4) 2 z))
       (λ not-2.
-      let o : byteAt m 4 ≡ 3 =
-      omega (arith, ltb-false 3 (byteAt m 4) known, eqb-false (byteAt m 4) 0 not-0, eqb-false (byteAt m 4) 1 not-1, eqb-false (byteAt m 4) 2 not-2) in
-      if-ind (λ (x : Endpoint). Acts (acted x (stateWord (w .endpoint) (csiOf m)))) (isSet (byteAt m 6) 0) (λ z. clears o z) (λ z. reports o z))))
+      if-ind Acts (eqb (byteAt m 4) 3)
+      (λ z.
+      let o = eqb-true (byteAt m 4) 3 z in
+      if-ind (λ (x : Endpoint). Acts (acted x (stateWord (w .endpoint) (csiOf m)))) (isSet (byteAt m 6) 0) (λ z. clears o z) (λ z. reports o z))
+      (λ not-3.
+      replays
+      (omega
+      (arith, ltb-false 4 (byteAt m 4) known, eqb-false (byteAt m 4) 0 not-0, eqb-false (byteAt m 4) 1 not-1, eqb-false (byteAt m 4) 2 not-2, eqb-false (byteAt m 4) 3 not-3))))))
 
 -- ---- the reply
 
 -- a refusal's number is another than 2
 ground-not : {A : Type 0} (w : World) (p : List ℕ) (n : ℕ) → Ground w p n → n ≡ 2 → A
 ground-not w p n (in-table _ lo hi) e = absurd (omega arith)
+ground-not w p _ (of-control _ _) e = absurd (omega arith)
 ground-not w p _ (of-no-slot _ _) e = absurd (omega arith)
 
 break-not : {A : Type 0} (w : World) (p : List ℕ) (n : ℕ) → Break w p n → n ≡ 2 → A
@@ -277,13 +313,14 @@ module _ (w₀ : World) (p : List ℕ) (s₀ : Sound w₀) where
         store1-is = refl;
       }
 
-  answers : (a b c : Bool) → isSet (byteAt m 2) 0 ≡ a → isSet (byteAt m 2) 1 ≡ b → ltb 3 (byteAt m 4) ≡ c
-      → Replied w₀ p (by (if a then Parameter 2 0 else if b then Parameter 2 1 else if c then Failure 3 else NoFault))
+  answers : (a b c d : Bool) → isSet (byteAt m 2) 0 ≡ a → isSet (byteAt m 2) 1 ≡ b → ltb 4 (byteAt m 4) ≡ c → wrongReplay m ≡ d
+      → Replied w₀ p (by (if a then Parameter 2 0 else if b then Parameter 2 1 else if c then Failure 3 else if d then Parameter 6 0 else NoFault))
   unfolding endAssembly
-  answers true b c x y z = fails (4 ∷ 0 ∷ 2 ∷ 0 ∷ []) (rw x refl) (λ _. rw x refl)
-  answers false true c x y z = fails (4 ∷ 1 ∷ 2 ∷ 0 ∷ []) (rw (x, y) refl) (λ _. rw (x, y) refl)
-  answers false false true x y z = fails (3 ∷ 0 ∷ 0 ∷ 0 ∷ []) (rw (x, y, z) refl) (λ _. rw (x, y, z) refl)
-  answers false false false x y z =
+  answers true b c d x y z u = fails (4 ∷ 0 ∷ 2 ∷ 0 ∷ []) (rw x refl) (λ _. rw x refl)
+  answers false true c d x y z u = fails (4 ∷ 1 ∷ 2 ∷ 0 ∷ []) (rw (x, y) refl) (λ _. rw (x, y) refl)
+  answers false false true d x y z u = fails (3 ∷ 0 ∷ 0 ∷ 0 ∷ []) (rw (x, y, z) refl) (λ _. rw (x, y, z) refl)
+  answers false false false true x y z u = fails (4 ∷ 0 ∷ 6 ∷ 0 ∷ []) (rw (x, y, z, u) refl) (λ _. rw (x, y, z, u) refl)
+  answers false false false false x y z u =
       let k = primitive-acts m found found-valid z in
       let a = primitive (found .endpoint) (opcodeOf m) (messageHeader m .csi) (clearsFlags m) in
       let word : a .cpsr ≡ cpsrOf m (slotFound w₀ p (csiOf m)) (w₀ .endpoint .flags) (by NoFault) = k .word ∙ ap (λ (s : Slot). cpsrOf m s (w₀ .endpoint .flags) (by NoFault)) (found-is w₀ p (csiOf m) (csi-most m)) in
@@ -293,9 +330,9 @@ module _ (w₀ : World) (p : List ℕ) (s₀ : Sound w₀) where
         under = refl;
         reply-is =
             reply-bytes m (0 ∷ byteAt m 5 ∷ a .cpsr % 256 ∷ a .cpsr / 256 % 256 ∷ [])
-            ∙ rw (x, y, z) (ap (λ (n : ℕ). withCheck (0x84 ∷ (128 + csiOf m) ∷ 0 ∷ 0 ∷ 0 ∷ byteAt m 5 ∷ n % 256 ∷ n / 256 % 256 ∷ [])) word);
-        slots-are = λ j js. rw (x, y, z) (k .slots j js ∙ ap (actedOn m j) (found-is w₀ p j js));
-        flags-are = rw (x, y, z) (k .flags);
+            ∙ rw (x, y, z, u) (ap (λ (n : ℕ). withCheck (0x84 ∷ (128 + csiOf m) ∷ 0 ∷ 0 ∷ 0 ∷ byteAt m 5 ∷ n % 256 ∷ n / 256 % 256 ∷ [])) word);
+        slots-are = λ j js. rw (x, y, z, u) (k .slots j js ∙ ap (actedOn m j) (found-is w₀ p j js));
+        flags-are = rw (x, y, z, u) (k .flags);
         eid-is = k .eid;
         turn-is = k .turn;
         last-is = k .last;
@@ -305,7 +342,7 @@ module _ (w₀ : World) (p : List ℕ) (s₀ : Sound w₀) where
 
   controls : Replied w₀ p (withEndpoint found (controlled (found .endpoint) (fields p) (messageHeader m) m))
   unfolding controlled controlFault
-  controls = answers (isSet (byteAt m 2) 0) (isSet (byteAt m 2) 1) (ltb 3 (byteAt m 4)) refl refl refl
+  controls = answers (isSet (byteAt m 2) 0) (isSet (byteAt m 2) 1) (ltb 4 (byteAt m 4)) (wrongReplay m) refl refl refl refl
 
   -- what is answered with 2 is a control primitive that came whole, and it is replied to
   abbrev Said : Outcome → Type 0
@@ -391,29 +428,37 @@ primitive-done w p s = by (eqb (received w p .answer) 2) (isControl (w .endpoint
     by false false e f = refl
 
 -- a primitive that acts, by its bytes: it is replied to, and its tests found no error
+pub acts-so : (opcode : ℕ) → opcode ≤ 4 → (w : World) (p : List ℕ) → Sound w → isPrimitive opcode (w .endpoint .eid) p ≡ true → wrongReplay (bytesFrom4 p) ≡ false
+    → Replied w p (received w p .world) × (isError (bytesFrom4 p) ≡ false) × (byteAt (bytesFrom4 p) 4 ≡ opcode)
+acts-so opcode few w p s h plain =
+    let a = acting opcode (w .endpoint .eid) p h in
+    let two : received w p .answer ≡ 2 = eqb-true (received w p .answer) 2 (primitive-done w p s ∙ a .whole) in
+    let known : ltb 4 (byteAt (bytesFrom4 p) 4) ≡ false = rw (a .opcode-is) (le-ltb 4 opcode few) in
+    (control-replied w p s two, rw (a .meb, a .ciap, known, plain) refl, a .opcode-is)
+
+-- the four of document 01 take any CPSP
 pub acts : (opcode : ℕ) → opcode ≤ 3 → (w : World) (p : List ℕ) → Sound w → isPrimitive opcode (w .endpoint .eid) p ≡ true
     → Replied w p (received w p .world) × (isError (bytesFrom4 p) ≡ false) × (byteAt (bytesFrom4 p) 4 ≡ opcode)
 acts opcode few w p s h =
-    let a = acting opcode (w .endpoint .eid) p h in
-    let two : received w p .answer ≡ 2 = eqb-true (received w p .answer) 2 (primitive-done w p s ∙ a .whole) in
-    (control-replied w p s two, rw (a .meb, a .ciap, a .opcode-is, le-ltb 3 opcode few) refl, a .opcode-is)
+    acts-so opcode (omega arith) w p s h
+    (rw (acting opcode (w .endpoint .eid) p h .opcode-is, ne-eqb opcode 4 (λ e. omega arith)) (and-false (not (noCpsp (bytesFrom4 p)))))
 
 -- ---- what demand 3 excuses
 
-abort-idle : (w : World) → Sound w → (p : List ℕ) (i : ℕ) → i ≤ 1 → isAbort i (w .endpoint .eid) p ≡ true → phaseAt (received w p .world) i ≡ Idle
+abort-idle : (w : World) → Sound w → (p : List ℕ) (i : ℕ) → i ≤ 1 → isAbort i (w .endpoint .eid) p ≡ true → phaseAt (received w p .world) i ≡ Idle NoResponse
 abort-idle w s p i is h =
     let k = and-both (isPrimitive 2 (w .endpoint .eid) p) (eqb (byteAt (bytesFrom4 p) 1 % 2) i) h in
     let a = acts 2 (omega arith) w p s (k .0) in
     let mine : eqb i (csiOf (bytesFrom4 p)) ≡ true = eq-eqb i (csiOf (bytesFrom4 p)) (sym (eqb-true (byteAt (bytesFrom4 p) 1 % 2) i (k .1))) in
     ap (λ (x : Slot). x .phase) (a .0 .slots-are i is) ∙ rw (a .1, a .2, mine) refl
 
-reset-idle : (e : Endpoint) (i : ℕ) → i ≤ 1 → slotAt (wasReset e .endpoint) i .phase ≡ Idle
+reset-idle : (e : Endpoint) (i : ℕ) → i ≤ 1 → slotAt (wasReset e .endpoint) i .phase ≡ Idle NoResponse
 unfolding wasReset
 reset-idle e zero is = refl
 reset-idle e (suc zero) is = refl
 reset-idle e (suc (suc n)) is = absurd (omega arith)
 
-cut-idle : (c : Call) (w : World) → Sound w → (i : ℕ) → i ≤ 1 → cuts i c w ≡ true → phaseAt (step c w .world) i ≡ Idle
+pub cut-idle : (c : Call) (w : World) → Sound w → (i : ℕ) → i ≤ 1 → cuts i c w ≡ true → phaseAt (step c w .world) i ≡ Idle NoResponse
 unfolding step
 cut-idle (receive p) w s i is k = abort-idle w s p i is k
 cut-idle (take! j) w s i is k = false-true k
@@ -480,7 +525,7 @@ taken-still e i = if-ind StillSo (not (isSlot i)) (λ _. refl) (λ _. from (slot
     row r Taken = refl
 
     from : (p : Phase) → StillSo (takenFrom e i p)
-    from Idle = refl
+    from (Idle held) = refl
     from (Receive a) = refl
     from (Process r) = row r (r .taking)
     from (Answered r) = refl
@@ -499,7 +544,7 @@ completed-still w i t body =
     row r Taken = if-ind StillSo (not (isBody body)) (λ _. refl) (λ _. responded-still w i r body)
 
     into : (p : Phase) → StillSo (completedIn w i t body p)
-    into Idle = refl
+    into (Idle held) = refl
     into (Receive a) = refl
     into (Process r) = if-ind StillSo (not (isPresent t (slotAt (w .endpoint) i))) (λ _. refl) (λ _. row r (r .taking))
     into (Answered r) = refl

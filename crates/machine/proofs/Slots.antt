@@ -1,7 +1,7 @@
 -- Facts about the two slots of a state: which phases are early, what a change of one slot leaves of the other.
 -- Assumes nothing.
 use Prim.Native.Nat.{ℕ, zero, suc, _≤_}
-use mathlib.Core.Path.{_≡_, refl, sym}
+use mathlib.Core.Path.{_≡_, refl, sym, ap}
 use mathlib.Core.Bool.{Bool, true, false, not}
 use mathlib.Core.List.{List}
 use native.Mathlib.Omega.{arith}
@@ -10,22 +10,33 @@ use lib.ListN.{getD}
 use borrow.Author.Tests.{eqb-true, eq-eqb}
 use Rattle.lent.specs.Choice.{if_then_else_}
 use Rattle.lent.proofs.Choice.{if-ind, if-second, and-both, differ}
-use Rattle.machine.specs.State.{fresh, ticket, idled, slotAt, isIdle}
+use Rattle.machine.specs.State.{fresh, ticket, idled, heldIn, slotAt, isIdle}
 use Rattle.machine.specs.Receive.{isFrom, gathers, holder, holderIn, endAssembly, endedSlot}
 use Rattle.machine.specs.Poll.{otherSlot}
 use Rattle.machine.specs.Valid.{phased, apart, PhaseFacts, ValidSlot, ValidSlots, two, Valid}
-use Rattle.machine.specs.Types.{Assembly, Phase, Idle, Receive, Process, Answered, Transmit, Slot, Endpoint, Holder, Nowhere, At}
+use Rattle.machine.specs.Types.{Assembly, Response, NoResponse, Last, Phase, Idle, Receive, Process, Answered, Transmit, Slot, Endpoint, Holder, Nowhere, At}
 
 -- Idle or Receive: no command of this slot is in Process or Transmit
 abbrev pub isEarly : Phase → Bool
 isEarly = phased true (λ a. true) (λ r. false) (λ r. false) (λ r. false)
 
 pub idle-early : (p : Phase) → isIdle p ≡ true → isEarly p ≡ true
-idle-early Idle h = refl
+idle-early (Idle held) h = refl
 idle-early (Receive a) h = refl
 idle-early (Process r) h = h
 idle-early (Answered r) h = h
 idle-early (Transmit r) h = h
+
+-- only an Idle slot holds a response
+pub held-idle : (p : Phase) (r : Response) → heldIn p ≡ Last r → p ≡ Idle (Last r)
+held-idle (Idle held) r e = ap Idle e
+held-idle (Receive a) r e = differ (cc e)
+held-idle (Process x) r e = differ (cc e)
+held-idle (Answered x) r e = differ (cc e)
+held-idle (Transmit x) r e = differ (cc e)
+
+pub held-not : {A : Type 0} {r : Response} → Idle NoResponse ≡ Idle (Last r) → A
+held-not e = differ (cc e)
 
 -- ---- a slot by its number
 
@@ -56,7 +67,7 @@ from-sym a b h = go (isFrom (b .source) (b .tag) a) refl
 
 -- `apart` of a phase that gathers nothing
 pub apart-left : (p q : Phase) → ((source tag : ℕ) → gathers source tag p ≡ false) → apart p q ≡ true
-apart-left p Idle h = refl
+apart-left p (Idle held) h = refl
 apart-left p (Receive b) h = rw (h (b .source) (b .tag)) refl
 apart-left p (Process r) h = refl
 apart-left p (Answered r) h = refl
@@ -64,7 +75,7 @@ apart-left p (Transmit r) h = refl
 
 -- an assembly beside a slot that does not gather under its source and tag
 pub apart-new-left : (a : Assembly) (q : Phase) → gathers (a .source) (a .tag) q ≡ false → apart (Receive a) q ≡ true
-apart-new-left a Idle h = refl
+apart-new-left a (Idle held) h = refl
 apart-new-left a (Receive b) h = rw (from-sym a b h) refl
 apart-new-left a (Process r) h = refl
 apart-new-left a (Answered r) h = refl
@@ -79,7 +90,7 @@ not-true true e = sym e
 not-true false e = refl
 
 other-apart : (a : Assembly) (q : Phase) → apart (Receive a) q ≡ true → gathers (a .source) (a .tag) q ≡ false
-other-apart a Idle h = refl
+other-apart a (Idle held) h = refl
 other-apart a (Receive b) h = from-sym b a (not-true (isFrom (b .source) (b .tag) a) h)
 other-apart a (Process r) h = refl
 other-apart a (Answered r) h = refl
@@ -110,7 +121,7 @@ data Where (source tag k : ℕ) (p : Phase) (other : Holder) (i : ℕ) (a : Asse
 
 holder-in : (source tag k : ℕ) (p : Phase) (other : Holder) {i : ℕ} {a : Assembly} → holderIn source tag k p other ≡ At i a
     → Where source tag k p other i a
-holder-in source tag k Idle other e = there e
+holder-in source tag k (Idle held) other e = there e
 holder-in source tag k (Receive b) other {i} {a} e = go (isFrom source tag b) refl e
   where
     go : (t : Bool) → isFrom source tag b ≡ t → _≡_ {A = Holder} (if t then At k b else other) (At i a) → Where source tag k (Receive b) other i a
@@ -134,7 +145,7 @@ holder-at e source tag {i} {a} h = outer (holder-in source tag 0 (slotAt e 0 .ph
 
 -- where `holderIn` found none
 none-in : (source tag k : ℕ) (p : Phase) (other : Holder) → holderIn source tag k p other ≡ Nowhere → (gathers source tag p ≡ false) × (other ≡ Nowhere)
-none-in source tag k Idle other e = (refl, e)
+none-in source tag k (Idle held) other e = (refl, e)
 none-in source tag k (Receive a) other e = if-second (isFrom source tag a) (λ n. differ (cc n)) e
 none-in source tag k (Process r) other e = (refl, e)
 none-in source tag k (Answered r) other e = (refl, e)

@@ -102,7 +102,7 @@ take-gives w s i t = if-ind (Gives w i t) (not (isSlot i)) (λ _ e. number-given
     row is r Taken p u e = number-given e
 
     from : i ≤ 1 → (p : Phase) → phaseAt w i ≡ p → Gives w i t (takenFrom (w .endpoint) i p)
-    from is Idle p e = number-given e
+    from is (Idle held) p e = number-given e
     from is (Receive a) p e = number-given e
     from is (Process r) p e = row is r (r .taking) p refl e
     from is (Answered r) p e = number-given e
@@ -164,7 +164,7 @@ unfolding step completed
 other-refused w s i is t body n = rw (right-stores w s, slot-yes i is) (into (phaseAt w i))
   where
     into : (p : Phase) → _≡_ {A = Event} (number (completedIn w i t body p .answer)) (number (if isProcess p then 32 else 31))
-    into Idle = refl
+    into (Idle held) = refl
     into (Receive a) = refl
     into (Process r) = go (isPresent t (slotAt (w .endpoint) i)) refl
       where
@@ -200,7 +200,7 @@ accepted w s i is t body e = into (phaseAt w i) (rw (right-stores w s, slot-yes 
         same n q = cc
 
     into : (p : Phase) → _≡_ {A = Event} (number (completedIn w i t body p .answer)) (number 0) → (isProcess p ≡ true) × (t .0 ≡ slotAt (w .endpoint) i .ticket .0)
-    into Idle q = refused 30 q
+    into (Idle held) q = refused 30 q
     into (Receive a) q = refused 30 q
     into (Process r) q = (refl, go (isPresent t (slotAt (w .endpoint) i)) refl q)
       where
@@ -279,7 +279,7 @@ moved-full h g i is q m =
     some-response (slotAt (h .world .endpoint) i) (storeAt (h .world) i) (h .trace i) (g .fits i is) (facts-at i is (g .sound .state)) (by (phaseAt (h .world) i) m)
   where
     by : (p : Phase) → moved p q ≡ true → There p
-    by Idle n = false-true n
+    by (Idle held) n = false-true n
     by (Receive a) n = false-true n
     by (Process r) n = false-true n
     by (Answered r) n = false-true n
@@ -360,14 +360,14 @@ pauses-hold eid store0 store1 a b xs i is buffer e =
     (not-true (pausedAt (h .world) 0) (k .0), not-true (pausedAt (h .world) 1) (k .1))
 
 answered-flag : (b : Bool) (p : Phase) → PhaseFacts b p → isAnswered p ≡ true → b ≡ true
-answered-flag b Idle f h = false-true h
+answered-flag b (Idle held) f h = false-true h
 answered-flag b (Receive a) f h = false-true h
 answered-flag b (Process r) f h = false-true h
 answered-flag b (Answered r) f h = f .0
 answered-flag b (Transmit r) f h = false-true h
 
 idle-flag : (b : Bool) (p : Phase) → PhaseFacts b p → isIdleNow p ≡ true → b ≡ false
-idle-flag b Idle f h = f
+idle-flag b (Idle held) f h = f .0
 idle-flag b (Receive a) f h = false-true h
 idle-flag b (Process r) f h = false-true h
 idle-flag b (Answered r) f h = false-true h

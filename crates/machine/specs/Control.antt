@@ -12,9 +12,9 @@ use Rattle.nvme_mi.specs.Response.{response, faultBody, successBody}
 use Rattle.nvme_mi.specs.declared.MessageHeader.{MessageHeader}
 use Rattle.nvme_mi.specs.declared.Fault.{Fault}
 use Rattle.nvme_mi.specs.declared.Fault.the-variants.{NoFault, Parameter, Failure}
-use Rattle.machine.specs.State.{outgoing, slotAt, withSlot, onBoth, withPaused, withBusy, withFlags, withReply, slot, idled, isIdle}
-use Rattle.machine.specs.Wire.{opcodeOf, tagOf, clearsFlags}
-use Rattle.machine.specs.Types.{Taking, Untaken, Taken, Phase, Idle, Receive, Process, Answered, Transmit, Slot, Endpoint, Acted}
+use Rattle.machine.specs.State.{outgoing, slotAt, withSlot, onBoth, withPhase, withPaused, withBusy, withFlags, withReply, slot, idled, heldIn, isIdle}
+use Rattle.machine.specs.Wire.{opcodeOf, tagOf, noParameter, clearsFlags}
+use Rattle.machine.specs.Types.{Taking, Untaken, Taken, Held, NoResponse, Last, Phase, Idle, Receive, Process, Answered, Transmit, Slot, Endpoint, Acted}
 
 -- the value where the test holds, else 0
 abbrev pub bit : Bool → ℕ → ℕ
@@ -34,7 +34,7 @@ pauseWord e = bitOr (bit (slotAt e 0 .paused) 1) (bit (slotAt e 1 .paused) 2)
 -- ---- Resume (1): clears both flags; CPSR 0. A response that waited for its flag goes to Transmit in the same call.
 
 abbrev pub released : Phase → Phase
-released Idle = Idle
+released (Idle k) = Idle k
 released (Receive a) = Receive a
 released (Process r) = Process r
 released (Answered r) = Transmit (outgoing r 0)
@@ -54,7 +54,7 @@ takenWord Untaken = 1
 takenWord Taken = 2
 
 abbrev pub abortWord : Phase → ℕ
-abortWord Idle = 0
+abortWord (Idle k) = 0
 abortWord (Receive a) = 1
 abortWord (Process r) = takenWord (r .taking)
 abortWord (Answered r) = 0
@@ -67,7 +67,7 @@ abort e i = withSlot e i (idled (slotAt e i))
 -- endpoint's, 2 and 13 zero, 14 reset seen, 15 the slot's pause flag.
 
 abbrev pub stateNumber : Phase → ℕ
-stateNumber Idle = 0
+stateNumber (Idle k) = 0
 stateNumber (Receive a) = 1
 stateNumber (Process r) = 2
 stateNumber (Answered r) = 2
@@ -81,18 +81,28 @@ stateWord e i =
 unfoldable pub clearFlags : Endpoint → ℕ → Endpoint
 clearFlags e i = withFlags (withSlot e i (withBusy (slotAt e i) false)) 0
 
--- ---- a primitive: what it reports and leaves
+-- ---- what a primitive leaves and reports
 
 abbrev pub acted : Endpoint → ℕ → Acted
 acted e cpsr = record { endpoint = e; cpsr = cpsr }
 
+-- Replay (4), of document 02: "If the slot is Idle and still holds its last response, it goes to Transmit and sends it again under the same tag
+-- to the same requester, CPSR 1; otherwise CPSR 0 and nothing happens."
+abbrev pub replayed : Endpoint → ℕ → Held → Acted
+replayed e i NoResponse = acted e 0
+replayed e i (Last r) = acted (withSlot e i (withPhase (slotAt e i) (Transmit (outgoing r 0)))) 1
+
+unfoldable pub replay : Endpoint → ℕ → Acted
+replay e i = replayed e i (heldIn (slotAt e i .phase))
+
 unfoldable pub primitive : Endpoint → ℕ → ℕ → Bool → Acted
-unfolding pause resume abort stateWord clearFlags
+unfolding pause resume abort stateWord clearFlags replay
 primitive e opcode i clear =
     if eqb opcode 0 then acted (pause e) (pauseWord (pause e))
     else if eqb opcode 1 then acted (resume e) 0
     else if eqb opcode 2 then acted (abort e i) (abortWord (slotAt e i .phase))
-    else acted (if clear then clearFlags e i else e) (stateWord e i)
+    else if eqb opcode 3 then acted (if clear then clearFlags e i else e) (stateWord e i)
+    else replay e i
 
 -- ---- the reply. "One control reply of 12 bytes waits in the state; a newer one replaces it. Its CSI is the request's." Error replies
 -- carry no TAG, and their primitive does not act.
@@ -111,4 +121,4 @@ controlledBy e h csi m (Failure status) = replied e h csi (faultBody (Failure st
 -- a control primitive that came whole, with a right check
 unfoldable pub controlled : Endpoint → Header → MessageHeader → List ℕ → Endpoint
 unfolding primitive
-controlled e h mh m = controlledBy e h (mh .csi) m (controlFault mh (opcodeOf m))
+controlled e h mh m = controlledBy e h (mh .csi) m (controlFault mh (opcodeOf m) (noParameter m))

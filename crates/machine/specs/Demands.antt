@@ -15,7 +15,7 @@ use Rattle.machine.specs.State.{slotAt}
 use Rattle.machine.specs.Valid.{phased, Sound}
 use Rattle.machine.specs.Calls.{Call, receive, take!, read, complete, poll, number, given, part-read, handed-out, step}
 use Rattle.machine.specs.History.{History, phaseAt, pausedAt, isTransmit, isFor, requestWith, responseFor, fixedAtEntry, isPacketOf, next, run, start, cuts, packetsLeft, lastPacketOut}
-use Rattle.machine.specs.Types.{Ticket, Phase, Idle, Endpoint}
+use Rattle.machine.specs.Types.{Ticket, NoResponse, Phase, Idle, Endpoint}
 
 -- ---- what happens first to the response that slot i is sending
 
@@ -163,9 +163,9 @@ FlagsFit =
     Every (λ h. (i : ℕ) → i ≤ 1
     → (isAnswered (phaseAt (h .world) i) ≡ true → pausedAt (h .world) i ≡ true) × (isIdleNow (phaseAt (h .world) i) ≡ true → pausedAt (h .world) i ≡ false))
 
--- what demand 3 excuses, an Abort that acts on the slot or a reset, does send the slot to Idle
+-- what demand 3 excuses, an Abort that acts on the slot or a reset, does send the slot to Idle, and then it holds no response
 abbrev pub AbortIdles : Type 0
-AbortIdles = Every (λ h. (c : Call) (i : ℕ) → i ≤ 1 → cuts i c (h .world) ≡ true → phaseAt (step c (h .world) .world) i ≡ Idle)
+AbortIdles = Every (λ h. (c : Call) (i : ℕ) → i ≤ 1 → cuts i c (h .world) ≡ true → phaseAt (step c (h .world) .world) i ≡ Idle NoResponse)
 
 -- the invariant holds after every list of calls, and both stores keep their length
 abbrev pub AlwaysSound : Type 0

@@ -30,7 +30,7 @@ takenRow e i r Untaken = takeEnded (Given (slotAt e i .ticket)) (withSlot e i (w
 takenRow e i r Taken = takeEnded (Refused taken-already) e
 
 abbrev pub takenFrom : Endpoint → ℕ → Phase → TakeDone
-takenFrom e i Idle = takeEnded (Refused no-command) e
+takenFrom e i (Idle k) = takeEnded (Refused no-command) e
 takenFrom e i (Receive a) = takeEnded (Refused no-command) e
 takenFrom e i (Process r) = takenRow e i r (r .taking)
 takenFrom e i (Answered r) = takeEnded (Refused no-command) e
@@ -54,7 +54,7 @@ takenPart store r Untaken = []
 takenPart store r Taken = take (r .length) store
 
 abbrev pub partOf : List ℕ → Phase → List ℕ
-partOf store Idle = []
+partOf store (Idle k) = []
 partOf store (Receive a) = []
 partOf store (Process r) = takenPart store r (r .taking)
 partOf store (Answered r) = []
@@ -82,7 +82,7 @@ completedRow w i r body Taken =
     else outcome done (responded w i r body)
 
 abbrev pub completedIn : World → ℕ → Ticket → List ℕ → Phase → Outcome
-completedIn w i t body Idle = outcome no-command w
+completedIn w i t body (Idle k) = outcome no-command w
 completedIn w i t body (Receive a) = outcome no-command w
 completedIn w i t body (Process r) =
     if not (isPresent t (slotAt (w .endpoint) i)) then outcome other-ticket w
@@ -100,7 +100,7 @@ completed w i t body =
 -- ---- timeout: 30; 37 slot not in Receive or its flag is set; else Idle, bit 5, answer 0
 
 abbrev pub isReceive : Phase → Bool
-isReceive Idle = false
+isReceive (Idle k) = false
 isReceive (Receive a) = true
 isReceive (Process r) = false
 isReceive (Answered r) = false

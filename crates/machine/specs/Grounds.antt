@@ -16,7 +16,7 @@ use Rattle.machine.specs.Valid.{phased, Valid}
 use Rattle.machine.specs.History.{hasSom, sourceOf, messageTagOf, bytesFrom4, phaseAt, receivesFrom}
 use Rattle.machine.specs.Numbers.{rightSizes}
 use Rattle.machine.specs.Demands.{isIdleNow}
-use Rattle.machine.specs.Types.{Assembly, Phase, Idle}
+use Rattle.machine.specs.Types.{Assembly, NoResponse, Phase, Idle}
 
 -- ---- a packet's bits
 
@@ -38,7 +38,7 @@ takenIn p message =
 
 -- the slot's phase, once an assembly with this source and tag has ended
 abbrev pub phaseFound : World → List ℕ → ℕ → Phase
-phaseFound w p i = if receivesFrom (sourceOf p) (messageTagOf p) (phaseAt w i) then Idle else phaseAt w i
+phaseFound w p i = if receivesFrom (sourceOf p) (messageTagOf p) (phaseAt w i) then Idle NoResponse else phaseAt w i
 
 -- NMIMT 0
 abbrev pub controlNumber : List ℕ → List ℕ → ℕ

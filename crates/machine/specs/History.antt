@@ -250,7 +250,7 @@ controlTests eid p =
 abbrev pub isControl : ℕ → List ℕ → Bool
 isControl eid p = allOf (controlTests eid p)
 
--- one that acts, with this opcode (0 to 3): MEB 0, CIAP 0
+-- one that acts, with this opcode (0 to 3; of a Replay, 4, CPSP is 0 besides): MEB 0, CIAP 0
 abbrev pub isPrimitive : ℕ → ℕ → List ℕ → Bool
 isPrimitive opcode eid p =
     allOf

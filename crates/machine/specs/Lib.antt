@@ -19,3 +19,4 @@ pub mod Refusals
 pub mod Grounds
 pub mod Replies
 pub mod Gathering
+pub mod Replays

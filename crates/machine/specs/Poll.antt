@@ -8,7 +8,7 @@ use lib.ListN.{length, take, drop}
 use Rattle.lent.specs.Choice.{if_then_else_}
 use Rattle.mctp.specs.Cut.{packets, packet}
 use Rattle.machine.specs.Answers.{nothing-to-send, packet-sent, short-buffer, wrong-stores}
-use Rattle.machine.specs.State.{World, outgoing, slotAt, storeAt, withSlot, withPhase, idled, replySent, packetSent}
+use Rattle.machine.specs.State.{World, outgoing, slotAt, storeAt, withSlot, withPhase, holding, replySent, packetSent}
 use Rattle.machine.specs.Wire.{unit, packet-room, routeTo, wrongStores}
 use Rattle.machine.specs.Types.{Outgoing, Phase, Idle, Receive, Process, Answered, Transmit, Slot, Endpoint, PollAnswer, Ready, Nothing, From}
 use Rattle.machine.specs.declared.PollAnswer.the-variants.{Refused, Nothing as Silent, Packet}
@@ -32,7 +32,7 @@ pollSays (Packet n) = (packet-sent, n ∷ [])
 
 -- slot i's response where it is in Transmit, else what the other choice gives
 abbrev pub sendingOr : ℕ → Phase → Ready → Ready
-sendingOr i Idle other = other
+sendingOr i (Idle k) other = other
 sendingOr i (Receive a) other = other
 sendingOr i (Process r) other = other
 sendingOr i (Answered r) other = other
@@ -43,7 +43,7 @@ abbrev pub hasBegun : Outgoing → Bool
 hasBegun r = ltb 0 (r .sent)
 
 abbrev pub begunOr : ℕ → Phase → Ready → Ready
-begunOr i Idle other = other
+begunOr i (Idle k) other = other
 begunOr i (Receive a) other = other
 begunOr i (Process r) other = other
 begunOr i (Answered r) other = other
@@ -93,10 +93,10 @@ isLast r = eqb (r .sent + 1) (packets unit (r .response .length))
 abbrev pub advanced : Outgoing → Outgoing
 advanced r = outgoing (r .response) (r .sent + 1)
 
--- "After its last packet a slot is Idle."
+-- "After its last packet a slot is Idle." It holds the response.
 abbrev pub afterPacket : Slot → Outgoing → Slot
 afterPacket s r =
-    if isLast r then idled s
+    if isLast r then holding s (r .response)
     else withPhase s (Transmit (advanced r))
 
 -- slot i is then the one that last began

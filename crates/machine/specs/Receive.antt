@@ -70,7 +70,7 @@ abbrev pub isFrom : ℕ → ℕ → Assembly → Bool
 isFrom source tag a = eqb (a .source) source && eqb (a .tag) tag
 
 abbrev pub gathers : ℕ → ℕ → Phase → Bool
-gathers source tag Idle = false
+gathers source tag (Idle k) = false
 gathers source tag (Receive a) = isFrom source tag a
 gathers source tag (Process r) = false
 gathers source tag (Answered r) = false
@@ -85,7 +85,7 @@ endAssembly e source tag = onBoth (endedSlot source tag) e
 
 -- the slot in Receive with this source and tag
 abbrev pub holderIn : ℕ → ℕ → ℕ → Phase → Holder → Holder
-holderIn source tag i Idle other = other
+holderIn source tag i (Idle k) other = other
 holderIn source tag i (Receive a) other = if isFrom source tag a then At i a else other
 holderIn source tag i (Process r) other = other
 holderIn source tag i (Answered r) other = other
@@ -105,6 +105,8 @@ landed w i a More = outcome more-to-come (onSlot w i (withPhase (slotAt (w .endp
 landed w i a Wrong = refused (dropped w i) check-wrong
 landed w i a Whole = outcome command-complete (entered w i a (messageHeader (take (a .length) (storeAt w i))))
 
+-- The payload is put into the store: a response that the slot held is lost, whatever becomes of the packet, since each row of `landed` gives the slot
+-- another phase or `idled`.
 unfoldable pub gathered : World → ℕ → ℕ → Header → List ℕ → Outcome
 unfolding refused entered joinedIn
 gathered w i at h payload =

@@ -4,7 +4,7 @@
 -- Assumes nothing.
 use Prim.Native.Nat.{ℕ, _%_, _^_, _≤_}
 use mathlib.Core.Path.{_≡_}
-use mathlib.Core.Bool.{Bool, true, false, _||_}
+use mathlib.Core.Bool.{Bool, true, false, not, _&&_, _||_}
 use mathlib.Core.List.{List, [], _∷_, map}
 use lib.Bits.{bitOr}
 use lib.Dec.{eqb}
@@ -14,10 +14,10 @@ use Rattle.machine.specs.State.{World, slotAt, storeAt, withEndpoint, wi
 use Rattle.machine.specs.Receive.{flagOf, received}
 use Rattle.machine.specs.Calls.{Call, receive, take!, read, complete, poll, timeout, reset, number, step}
 use Rattle.machine.specs.Valid.{Valid, Sound, phased}
-use Rattle.machine.specs.History.{hasSom, sourceOf, messageTagOf, bytesFrom4, phaseAt, receivesFrom, isFor}
+use Rattle.machine.specs.History.{hasSom, sourceOf, messageTagOf, bytesFrom4, phaseAt, receivesFrom, isFor, kindOf}
 use Rattle.machine.specs.Numbers.{rightSizes}
 use Rattle.machine.specs.Demands.{isIdleNow}
-use Rattle.machine.specs.Types.{Phase, Idle, Slot}
+use Rattle.machine.specs.Types.{NoResponse, Phase, Idle, Slot}
 
 abbrev pub isOneOf : ℕ → List ℕ → Bool
 isOneOf n [] = false
@@ -35,9 +35,9 @@ FlagColumn =
     map flagOf (10 ∷ 11 ∷ 12 ∷ 13 ∷ 14 ∷ 15 ∷ 16 ∷ 17 ∷ 18 ∷ 19 ∷ 20 ∷ 21 ∷ 22 ∷ 23 ∷ [])
     ≡ 0 ∷ 2 ^ 6 ∷ 2 ^ 7 ∷ 2 ^ 8 ∷ 2 ^ 12 ∷ 0 ∷ 2 ^ 9 ∷ 0 ∷ 0 ∷ 2 ^ 4 ∷ 0 ∷ 2 ^ 10 ∷ 2 ^ 11 ∷ 0 ∷ []
 
--- a slot that goes to Idle keeps its ticket and its bit 3, and loses its pause flag
+-- a slot that goes to Idle keeps its ticket and its bit 3, loses its pause flag, and holds no response
 abbrev pub atIdle : Slot → Slot
-atIdle s = record { ticket = s .ticket; paused = false; busy = s .busy; phase = Idle }
+atIdle s = record { ticket = s .ticket; paused = false; busy = s .busy; phase = Idle NoResponse }
 
 abbrev pub toIdle : World → ℕ → World
 toIdle w i = onSlot w i (atIdle (slotAt (w .endpoint) i))
@@ -61,11 +61,17 @@ placeIn p q = if hasSom p then 0 else phased 0 (λ a. a .length) (λ r. 0) (λ r
 abbrev pub stored : World → ℕ → List ℕ → World
 stored w i p = withStore (assemblyEnded w p) i (put (storeAt (assemblyEnded w p) i) (placeIn p (phaseAt w i)) (bytesFrom4 p))
 
+-- a packet of a command: NMIMT is not 0; only the first packet has it
+abbrev pub isCommand : List ℕ → Bool
+isCommand p = not (hasSom p && eqb (kindOf (bytesFrom4 p)) 0)
+
 pub data Leaves (w : World) (p : List ℕ) : ℕ → World → Type 0 where
   -- 10 to 14: the flag
   unread : {n : ℕ} → 10 ≤ n → n ≤ 14 → Leaves w p n (flagged w n)
-  -- SOM 1, 15 to 19: an assembly with its source and tag has ended, and the flag
-  tabled : {n : ℕ} → hasSom p ≡ true → 15 ≤ n → n ≤ 19 → Leaves w p n (flagged (assemblyEnded w p) n)
+  -- SOM 1, 15 to 18: an assembly with its source and tag has ended, and the flag
+  tabled : {n : ℕ} → hasSom p ≡ true → 15 ≤ n → n ≤ 18 → Leaves w p n (flagged (assemblyEnded w p) n)
+  -- 19 of a control primitive: the same; nothing is stored
+  unstored : hasSom p ≡ true → kindOf (bytesFrom4 p) ≡ 0 → Leaves w p 19 (flagged (assemblyEnded w p) 19)
   -- 20, where the slot that CSI names is not Idle: the same, and that slot's own bit 3
   busy : (i : ℕ) → hasSom p ≡ true → i ≡ byteAt p 5 % 2 → isIdleNow (phaseAt (assemblyEnded w p) i) ≡ false
       → Leaves w p 20 (onSlot (assemblyEnded w p) i (marked (slotAt (assemblyEnded w p .endpoint) i)))
@@ -75,7 +81,7 @@ pub data Leaves (w : World) (p : List ℕ) : ℕ → World → Type 0 where
   broken : {n : ℕ} (i : ℕ) → hasSom p ≡ false → receivesFrom (sourceOf p) (messageTagOf p) (phaseAt w i) ≡ true → i ≤ 1
       → isOneOf n (22 ∷ 16 ∷ 23 ∷ []) ≡ true → Leaves w p n (flagged (toIdle w i) n)
   -- 19 of a command: its payload is stored at its place in the slot that it is for, the slot goes to Idle, and the flag
-  failed : (i : ℕ) → isFor i p w ≡ true → i ≤ 1 → Leaves w p 19 (flagged (toIdle (stored w i p) i) 19)
+  failed : (i : ℕ) → isFor i p w ≡ true → i ≤ 1 → isCommand p ≡ true → Leaves w p 19 (flagged (toIdle (stored w i p) i) 19)
 
 -- any packet, in any sound state: what is answered from 3 on is a refusal, and it leaves what is said of its number
 abbrev pub RefusedPacket : Type 0

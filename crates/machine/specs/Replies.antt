@@ -10,13 +10,13 @@ use lib.ListN.{length}
 use Rattle.lent.specs.Choice.{if_then_else_}
 use Rattle.lent.specs.Bytes.{byteAt, isSet}
 use Rattle.nvme_mi.specs.Check.{withCheck}
-use Rattle.machine.specs.State.{World, slot, slotAt}
+use Rattle.machine.specs.State.{World, slot, slotAt, heldIn}
 use Rattle.machine.specs.Receive.{received}
 use Rattle.machine.specs.Valid.{phased, Sound}
 use Rattle.machine.specs.Calls.{Call, receive, poll, reset, ofCall, Event, number, given, part-read, handed-out, Stepped, step}
 use Rattle.machine.specs.History.{sourceOf, messageTagOf, bytesFrom4, phaseAt, pausedAt, receivesFrom, isPacketOf, byNumber, one?, isControl}
 use Rattle.machine.specs.Demands.{Every, isIdleNow, replyPacket}
-use Rattle.machine.specs.Types.{Taking, Untaken, Taken, Phase, Idle, Receive, Process, Transmit, Slot, Endpoint}
+use Rattle.machine.specs.Types.{Taking, Untaken, Taken, Held, NoResponse, Last, Phase, Idle, Transmit, Slot, Endpoint}
 
 -- ---- what a control primitive says: a message m of header, opcode, TAG, CPSP (2), check
 
@@ -24,9 +24,17 @@ use Rattle.machine.specs.Types.{Taking, Untaken, Taken, Phase, Idle, Rec
 abbrev pub csiOf : List ℕ → ℕ
 csiOf m = byteAt m 1 % 2
 
--- MEB 1, CIAP 1 or an opcode above 3: "none of these acts"
+-- CPSP is 0: both bytes
+abbrev pub noCpsp : List ℕ → Bool
+noCpsp m = eqb (byteAt m 6) 0 && eqb (byteAt m 7) 0
+
+-- a Replay (4) with another CPSP: "Only CPSP 0 is taken"
+abbrev pub wrongReplay : List ℕ → Bool
+wrongReplay m = not (noCpsp m) && eqb (byteAt m 4) 4
+
+-- MEB 1, CIAP 1, an opcode above 4 or a Replay with a CPSP: "none of these acts"
 abbrev pub isError : List ℕ → Bool
-isError m = isSet (byteAt m 2) 0 || isSet (byteAt m 2) 1 || ltb 3 (byteAt m 4)
+isError m = isSet (byteAt m 2) 0 || isSet (byteAt m 2) 1 || ltb 4 (byteAt m 4) || wrongReplay m
 
 -- A PRIMITIVE IS DONE. It is answered with 2, control done, and no other packet is.
 abbrev pub PrimitiveDone : Type 0
@@ -34,11 +42,11 @@ PrimitiveDone = (w : World) (p : List ℕ) → Sound w → eqb (received w p .an
 
 -- ---- what it finds
 
--- slot i when a primitive in packet p acts. The packet has SOM: an assembly with its source and tag has ended first, and a slot that enters
--- Idle loses its pause flag.
+-- slot i when a primitive in packet p acts. The packet has SOM: an assembly with its source and tag has ended first, and a slot that so enters
+-- Idle loses its pause flag and holds no response.
 abbrev pub slotFound : World → List ℕ → ℕ → Slot
 slotFound w p i =
-    if receivesFrom (sourceOf p) (messageTagOf p) (phaseAt w i) then slot (slotAt (w .endpoint) i .ticket) false (slotAt (w .endpoint) i .busy) Idle
+    if receivesFrom (sourceOf p) (messageTagOf p) (phaseAt w i) then slot (slotAt (w .endpoint) i .ticket) false (slotAt (w .endpoint) i .busy) (Idle NoResponse)
     else slotAt (w .endpoint) i
 
 -- ---- CPSR
@@ -59,6 +67,11 @@ abortedIn = phased 0 (λ a. 1) (λ r. abortedProcess (r .taking)) (λ r. 0) (λ 
 abbrev pub stateOf : Phase → ℕ
 stateOf = phased 0 (λ a. 1) (λ r. 2) (λ r. 2) (λ r. 3)
 
+-- Replay: 1 if the slot is Idle and holds a response, else 0
+abbrev pub holdsOne : Held → ℕ
+holdsOne NoResponse = 0
+holdsOne (Last r) = 1
+
 -- of a primitive m that finds its slot as s and these flags. Pause: the pause flags of slots 0 and 1 afterwards, bits 0 and 1. Resume: 0. Get
 -- State: the slot's state, its bit 3, the endpoint's bits 4 to 12 and 14, and its pause flag as bit 15.
 abbrev pub cpsrOf : List ℕ → Slot → ℕ → World → ℕ
@@ -66,16 +79,18 @@ cpsrOf m s flags after =
     if eqb (byteAt m 4) 0 then worth (pausedAt after 0) 1 + worth (pausedAt after 1) 2
     else if eqb (byteAt m 4) 1 then 0
     else if eqb (byteAt m 4) 2 then abortedIn (s .phase)
-    else stateOf (s .phase) + worth (s .busy) 0x8 + flags + worth (s .paused) 0x8000
+    else if eqb (byteAt m 4) 3 then stateOf (s .phase) + worth (s .busy) 0x8 + flags + worth (s .paused) 0x8000
+    else holdsOne (heldIn (s .phase))
 
 -- ---- the reply
 
--- status 04h with the bit and the byte of MEB or CIAP, or 03h, and no TAG; else 00h, the primitive's TAG, and CPSR low byte first
+-- status 04h with the bit and the byte of MEB, CIAP or CPSP, or 03h, and no TAG; else 00h, the primitive's TAG, and CPSR low byte first
 abbrev pub bodyOf : List ℕ → ℕ → List ℕ
 bodyOf m cpsr =
     if isSet (byteAt m 2) 0 then 4 ∷ 0 ∷ 2 ∷ 0 ∷ []
     else if isSet (byteAt m 2) 1 then 4 ∷ 1 ∷ 2 ∷ 0 ∷ []
-    else if ltb 3 (byteAt m 4) then 3 ∷ 0 ∷ 0 ∷ 0 ∷ []
+    else if ltb 4 (byteAt m 4) then 3 ∷ 0 ∷ 0 ∷ 0 ∷ []
+    else if wrongReplay m then 4 ∷ 0 ∷ 6 ∷ 0 ∷ []
     else 0 ∷ byteAt m 5 ∷ cpsr % 256 ∷ cpsr / 256 % 256 ∷ []
 
 -- 84h, ROR 1 with NMIMT 0 and the primitive's CSI, two zeros, the body, the check
@@ -86,18 +101,23 @@ replyOf m cpsr = withCheck ((0x84 ∷ (128 + csiOf m) ∷ 0 ∷ 0 ∷ []) ++ bod
 
 -- "A slot in Process with its response there and its own flag clear goes to Transmit at once."
 abbrev pub unpaused : Phase → Phase
-unpaused = phased Idle (λ a. Receive a) (λ r. Process r) (λ r. Transmit (record { response = r; sent = 0 })) (λ r. Transmit r)
+unpaused p = phased p (λ a. p) (λ r. p) (λ r. Transmit (record { response = r; sent = 0 })) (λ r. p) p
 
--- slot j, found as s. Pause: the flag of each slot that is not Idle. Resume: no flag. Abort: the primitive's slot is Idle. Get State: with CPSP
--- bit 0, the slot's bit 3 is cleared.
+-- Replay: the response that the slot holds goes to Transmit, none of its packets sent; a slot that holds none stays as it is
+abbrev pub sentAgain : Held → Slot → Slot
+sentAgain NoResponse s = s
+sentAgain (Last r) s = slot (s .ticket) (s .paused) (s .busy) (Transmit (record { response = r; sent = 0 }))
+
+-- slot j, found as s. Pause: the flag of each slot that is not Idle. Resume: no flag. Abort: the primitive's slot is Idle and
+-- holds no response. Get State: with CPSP bit 0, the slot's bit 3 is cleared. Replay: what the slot holds is sent again; its ticket stays.
 abbrev pub actedOn : List ℕ → ℕ → Slot → Slot
 actedOn m j s =
     if eqb (byteAt m 4) 0 then slot (s .ticket) (not (isIdleNow (s .phase))) (s .busy) (s .phase)
     else if eqb (byteAt m 4) 1 then slot (s .ticket) false (s .busy) (unpaused (s .phase))
     else if not (eqb j (csiOf m)) then s
-    else if eqb (byteAt m 4) 2 then slot (s .ticket) false (s .busy) Idle
-    else if isSet (byteAt m 6) 0 then slot (s .ticket) (s .paused) false (s .phase)
-    else s
+    else if eqb (byteAt m 4) 2 then slot (s .ticket) false (s .busy) (Idle NoResponse)
+    else if eqb (byteAt m 4) 3 then (if isSet (byteAt m 6) 0 then slot (s .ticket) (s .paused) false (s .phase) else s)
+    else sentAgain (heldIn (s .phase)) s
 
 -- Get State with CPSP bit 0: after reporting, bits 4 to 14 are cleared
 abbrev pub flagsAfter : List ℕ → ℕ → ℕ

@@ -6,7 +6,7 @@ use mathlib.Core.List.{List, [], _∷_}
 use lib.Dec.{eqb}
 use lib.ListN.{getD, set}
 use Rattle.lent.specs.Choice.{if_then_else_}
-use Rattle.machine.specs.Types.{Ticket, Response, Outgoing, Phase, Idle, Receive, Process, Answered, Transmit, Slot, Endpoint, Done}
+use Rattle.machine.specs.Types.{Ticket, Response, Outgoing, Held, NoResponse, Last, Phase, Idle, Receive, Process, Answered, Transmit, Slot, Endpoint, Done}
 
 -- ---- tickets
 
@@ -24,7 +24,7 @@ slot t paused busy phase = record { ticket = t; paused = paused; busy = busy; ph
 
 -- an Idle slot with nothing but its ticket count
 abbrev pub fresh : Ticket → Slot
-fresh t = slot t false false Idle
+fresh t = slot t false false (Idle NoResponse)
 
 abbrev pub withPhase : Slot → Phase → Slot
 withPhase s p = slot (s .ticket) (s .paused) (s .busy) p
@@ -35,12 +35,25 @@ withPaused s b = slot (s .ticket) b (s .busy) (s .phase)
 abbrev pub withBusy : Slot → Bool → Slot
 withBusy s b = slot (s .ticket) (s .paused) b (s .phase)
 
--- "Any slot entering Idle loses its pause flag."
+-- "Any slot entering Idle loses its pause flag." On every way but the one below it holds no response then.
 abbrev pub idled : Slot → Slot
-idled s = slot (s .ticket) false (s .busy) Idle
+idled s = slot (s .ticket) false (s .busy) (Idle NoResponse)
 
+-- after the last packet of its response: Idle, and the slot "still holds its last response"
+abbrev pub holding : Slot → Response → Slot
+holding s r = slot (s .ticket) false (s .busy) (Idle (Last r))
+
+-- what a slot holds: only an Idle one has it
+abbrev pub heldIn : Phase → Held
+heldIn (Idle k) = k
+heldIn (Receive a) = NoResponse
+heldIn (Process r) = NoResponse
+heldIn (Answered r) = NoResponse
+heldIn (Transmit r) = NoResponse
+
+-- whether it holds a response or not
 abbrev pub isIdle : Phase → Bool
-isIdle Idle = true
+isIdle (Idle k) = true
 isIdle (Receive a) = false
 isIdle (Process r) = false
 isIdle (Answered r) = false

@@ -7,6 +7,8 @@ pub use Rattle.machine.specs.declared.Taking.the-variants.{Untaken, Take
 pub use Rattle.machine.specs.declared.Request.{Request}
 pub use Rattle.machine.specs.declared.Response.{Response}
 pub use Rattle.machine.specs.declared.Outgoing.{Outgoing}
+pub use Rattle.machine.specs.declared.Held.{Held}
+pub use Rattle.machine.specs.declared.Held.the-variants.{NoResponse, Last}
 pub use Rattle.machine.specs.declared.Phase.{Phase}
 pub use Rattle.machine.specs.declared.Phase.the-variants.{Idle, Receive, Process, Answered, Transmit}
 pub use Rattle.machine.specs.declared.Slot.{Slot}

@@ -9,11 +9,11 @@ use mathlib.Core.List.{List, [], _∷_}
 use lib.Dec.{eqb, leb, ltb}
 use lib.ListN.{length}
 use Rattle.nvme_mi.specs.Message.{smallest}
-use Rattle.machine.specs.State.{World, isIdle}
+use Rattle.machine.specs.State.{World, isIdle, heldIn}
 use Rattle.machine.specs.Wire.{unit, store-size}
 use Rattle.machine.specs.Receive.{gathers}
 use Rattle.machine.specs.Poll.{otherSlot}
-use Rattle.machine.specs.Types.{Assembly, Request, Response, Outgoing, Phase, Idle, Receive, Process, Answered, Transmit, Slot, Endpoint}
+use Rattle.machine.specs.Types.{Assembly, Request, Response, Outgoing, Held, NoResponse, Last, Phase, Idle, Receive, Process, Answered, Transmit, Slot, Endpoint}
 
 -- ---- as a test
 
@@ -26,7 +26,7 @@ between low high n = leb low n && leb n high
 
 -- a value for each phase
 abbrev pub phased : {A : Type 0} → A → (Assembly → A) → (Request → A) → (Response → A) → (Outgoing → A) → Phase → A
-phased i r p a t Idle = i
+phased i r p a t (Idle k) = i
 phased i r p a t (Receive x) = r x
 phased i r p a t (Process x) = p x
 phased i r p a t (Answered x) = a x
@@ -48,11 +48,16 @@ apart p q = phased true (λ b. not (gathers (b .source) (b .tag) p)) (λ r. true
 abbrev pub packetLeft : Phase → Bool
 packetLeft = phased true (λ a. true) (λ r. true) (λ r. true) (λ r. ltb (unit * r .sent) (r .response .length))
 
--- the request fits its store, and so does the response
+-- what is held fits its store
+abbrev pub heldFits : Held → Bool
+heldFits NoResponse = true
+heldFits (Last r) = between smallest-response store-size (r .length)
+
+-- the request fits its store, and so does the response, also one that is held
 abbrev pub messageFits : Phase → Bool
-messageFits =
-    phased true (λ a. true) (λ r. between smallest store-size (r .length)) (λ r. between smallest-response store-size (r .length))
-    (λ r. between smallest-response store-size (r .response .length))
+messageFits p =
+    phased (heldFits (heldIn p)) (λ a. true) (λ r. between smallest store-size (r .length)) (λ r. between smallest-response store-size (r .length))
+    (λ r. between smallest-response store-size (r .response .length)) p
 
 -- a response waits in Process only while its own flag is set
 abbrev pub waitsPaused : Slot → Bool
@@ -107,9 +112,13 @@ pub record Fits (r : Response) : Type 0 where
   pub least : smallest-response ≤ r .length
   pub most : r .length ≤ store-size
 
+abbrev pub HeldFacts : Held → Type 0
+HeldFacts NoResponse = Unit {0}
+HeldFacts (Last r) = Fits r
+
 -- what a slot's phase promises, with its pause flag
 abbrev pub PhaseFacts : Bool → Phase → Type 0
-PhaseFacts paused Idle = paused ≡ false
+PhaseFacts paused (Idle k) = (paused ≡ false) × HeldFacts k
 PhaseFacts paused (Receive a) = (unit ≤ a .length) × (a .length ≤ store-size)
 PhaseFacts paused (Process r) = (smallest ≤ r .length) × (r .length ≤ store-size)
 PhaseFacts paused (Answered r) = (paused ≡ true) × Fits r

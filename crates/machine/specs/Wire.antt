@@ -2,7 +2,7 @@
 -- header and the check in `nvme_mi`.
 -- Assumes nothing.
 use Prim.Native.Nat.{ℕ}
-use mathlib.Core.Bool.{Bool, true, false, not, _||_}
+use mathlib.Core.Bool.{Bool, true, false, not, _&&_, _||_}
 use mathlib.Core.List.{List}
 use lib.Dec.{eqb}
 use lib.ListN.{length}
@@ -49,6 +49,10 @@ opcodeOf message = byteAt message 4
 
 abbrev pub tagOf : List ℕ → ℕ
 tagOf message = byteAt message 5
+
+-- CPSP is 0
+abbrev pub noParameter : List ℕ → Bool
+noParameter message = eqb (byteAt message 6) 0 && eqb (byteAt message 7) 0
 
 -- bit 0 of CPSP
 abbrev pub clearsFlags : List ℕ → Bool

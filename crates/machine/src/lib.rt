@@ -50,9 +50,15 @@ pub struct Outgoing {
     pub sent: usize,
 }
 
+// What an Idle slot still holds for a Replay: nothing, or its last response, whose last packet went.
+pub enum Held {
+    NoResponse,
+    Last(Response),
+}
+
 // Each state of a slot holds what only that state has. `Answered` is Process with its response there.
 pub enum Phase {
-    Idle,
+    Idle(Held),
     Receive(Assembly),
     Process(Request),
     Answered(Response),

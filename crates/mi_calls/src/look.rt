@@ -7,6 +7,7 @@ use crate::line::say;
 use controller::Awaiting;
 use controller::Requester;
 use machine::Endpoint;
+use machine::Held;
 use machine::Phase;
 use machine::Request;
 use machine::Response;
@@ -57,9 +58,16 @@ fn response_words(on: bool, name: &[u8], r: Response) -> bool {
     three(on, name, byte(r.requester), byte(r.tag), r.length as u64)
 }
 
+fn held_words(on: bool, held: Held) -> bool {
+    match held {
+        Held::NoResponse => say(on, b"idle"),
+        Held::Last(response) => response_words(on, b"idle:", response),
+    }
+}
+
 fn phase_words(on: bool, phase: Phase) -> bool {
     match phase {
-        Phase::Idle => say(on, b"idle"),
+        Phase::Idle(held) => held_words(on, held),
         Phase::Receive(a) => {
             let on = three(
                 on,

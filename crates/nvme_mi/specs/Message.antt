@@ -2,7 +2,7 @@
 -- (the slot). Byte 2: bit 0 MEB, bit 1 CIAP. All other bits of bytes 1 to 3 are ignored on receipt, zero on sending.
 -- Assumes nothing.
 use Prim.Native.Nat.{ℕ, _/_, _%_}
-use mathlib.Core.Bool.{Bool, not, _||_}
+use mathlib.Core.Bool.{Bool, not, _&&_, _||_}
 use mathlib.Core.List.{List}
 use lib.Dec.{eqb, ltb}
 use Rattle.lent.specs.Choice.{if_then_else_}
@@ -81,10 +81,15 @@ commandFault header n =
     else if ltb n (shortest (header .nmimt)) then Failure invalid-size
     else NoFault
 
--- "Control primitives": a primitive with this opcode
-unfoldable pub controlFault : MessageHeader → ℕ → Fault
-controlFault header opcode =
+-- the greatest opcode that a control primitive has: Replay's, of document 02
+abbrev pub replay-opcode : ℕ
+replay-opcode = 4
+
+-- "Control primitives": a primitive with this opcode, and whether its CPSP is 0. Of a Replay "Only CPSP 0 is taken".
+unfoldable pub controlFault : MessageHeader → ℕ → Bool → Fault
+controlFault header opcode no-parameter =
     if header .meb then Parameter 2 0
     else if header .ciap then Parameter 2 1
-    else if ltb 3 opcode then Failure invalid-opcode
+    else if ltb replay-opcode opcode then Failure invalid-opcode
+    else if not no-parameter && eqb opcode replay-opcode then Parameter 6 0
     else NoFault

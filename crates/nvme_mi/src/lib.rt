@@ -53,7 +53,7 @@ const SHORTEST_ADMIN: usize = 72;
 
 const SHORTEST_PCIE: usize = 24;
 
-// Opcodes of control primitives. There is none above Get State.
+// Opcodes of control primitives. There is none above Replay.
 pub const PAUSE: u8 = 0;
 
 pub const RESUME: u8 = 1;
@@ -61,6 +61,8 @@ pub const RESUME: u8 = 1;
 pub const ABORT: u8 = 2;
 
 pub const GET_STATE: u8 = 3;
+
+pub const REPLAY: u8 = 4;
 
 // Status codes of a response.
 const SUCCESS: u8 = 0x00;
@@ -123,9 +125,9 @@ pub fn command_fault(header: MessageHeader, n: usize) -> Fault
     Fault::NoFault
 }
 
-// The tests of a control primitive with this opcode.
-pub fn control_fault(header: MessageHeader, opcode: u8) -> Fault
-    ensures { λ r. ⌜ r ≡ controlFault header opcode ⌝ }
+// The tests of a control primitive with this opcode, and whether its CPSP is 0: a Replay takes no other.
+pub fn control_fault(header: MessageHeader, opcode: u8, no_parameter: bool) -> Fault
+    ensures { λ r. ⌜ r ≡ controlFault header opcode «no_parameter» ⌝ }
 {
     if header.meb {
         return Fault::Parameter(2, 0);
@@ -133,8 +135,14 @@ pub fn control_fault(header: MessageHeader, opcode: u8) -> Fault
     if header.ciap {
         return Fault::Parameter(2, 1);
     }
-    if opcode > GET_STATE {
+    if opcode > REPLAY {
         return Fault::Failure(INVALID_OPCODE);
+    }
+    if no_parameter {
+        return Fault::NoFault;
+    }
+    if opcode == REPLAY {
+        return Fault::Parameter(6, 0);
     }
     Fault::NoFault
 }

@@ -25,7 +25,7 @@ fn sending_or(i: usize, phase: Phase, other: Ready) -> Ready
     ensures { λ r. ⌜ r ≡ sendingOr i phase other ⌝ }
 {
     match phase {
-        Phase::Idle => other,
+        Phase::Idle(_) => other,
         Phase::Receive(_) => other,
         Phase::Process(_) => other,
         Phase::Answered(_) => other,
@@ -38,7 +38,7 @@ fn begun_or(i: usize, phase: Phase, other: Ready) -> Ready
     ensures { λ r. ⌜ r ≡ begunOr i phase other ⌝ }
 {
     match phase {
-        Phase::Idle => other,
+        Phase::Idle(_) => other,
         Phase::Receive(_) => other,
         Phase::Process(_) => other,
         Phase::Answered(_) => other,

@@ -13,7 +13,7 @@ use machine::PollDone;
 use machine::Slot;
 use machine::sizes::UNIT;
 use mctp::Route;
-use slots::idled;
+use slots::holding;
 use slots::other_slot;
 
 // The way of a packet from this endpoint: TO 0, under the request's tag.
@@ -28,13 +28,14 @@ fn route_to(endpoint: Endpoint, requester: u8, tag: u8) -> Route
     }
 }
 
-// A slot after another packet of its response: Idle if that was the last.
+// A slot after another packet of its response: Idle if that was the last, and it holds the response.
 fn after_packet(slot: Slot, outgoing: Outgoing) -> Slot
     requires { ⌜ (unit * outgoing .sent < outgoing .response .length) × (outgoing .response .length ≤ store-size) ⌝ }
     ensures { λ r. ⌜ r ≡ afterPacket slot outgoing ⌝ }
 {
     if outgoing.response.length <= UNIT * outgoing.sent + UNIT {
-        return idled(slot);
+        let response = outgoing.response;
+        return holding(slot, response);
     }
     let phase = Phase::Transmit(Outgoing {
         sent: outgoing.sent + 1,

@@ -25,7 +25,7 @@ fn gathers(source: u8, tag: u8, phase: Phase) -> bool
     ensures { λ r. ⌜ r ≡ Receive·gathers source tag phase ⌝ }
 {
     match phase {
-        Phase::Idle => false,
+        Phase::Idle(_) => false,
         Phase::Receive(assembly) => is_from(source, tag, assembly),
         Phase::Process(_) => false,
         Phase::Answered(_) => false,

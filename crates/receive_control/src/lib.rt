@@ -1,10 +1,14 @@
 // "Control primitives" of document 01. A primitive acts on the whole at once, and its reply waits in the state.
 ghost use mathlib.Core.Path.{_≡_};
 ghost use Prim.Native.Nat.{_≤_, _<_};
+ghost use mathlib.Core.Bool.{_&&_};
+ghost use lib.Dec.{eqb};
 ghost use lib.ListN.{length};
-ghost use Rattle.machine.specs.Control.{pauseWord, resumedSlot, takenWord, abortWord, stateNumber, stateWord, clearFlags, bit as Control·bit, released as Control·released, resume as Control·resume, primitive as Control·primitive, replied as Control·replied, controlled as Control·controlled};
+ghost use Rattle.machine.specs.State.{heldIn};
+ghost use Rattle.machine.specs.Control.{pauseWord, resumedSlot, takenWord, abortWord, stateNumber, stateWord, clearFlags, bit as Control·bit, released as Control·released, resume as Control·resume, replay as Control·replay, primitive as Control·primitive, replied as Control·replied, controlled as Control·controlled};
 use machine::Acted;
 use machine::Endpoint;
+use machine::Held;
 use machine::Outgoing;
 use machine::Phase;
 use machine::Slot;
@@ -13,6 +17,7 @@ use machine::flags;
 use mctp::Header;
 use nvme_mi::ABORT;
 use nvme_mi::Fault;
+use nvme_mi::GET_STATE;
 use nvme_mi::MessageHeader;
 use nvme_mi::PAUSE;
 use nvme_mi::RESUME;
@@ -41,7 +46,7 @@ fn released(phase: Phase) -> Phase
     ensures { λ r. ⌜ r ≡ Control·released phase ⌝ }
 {
     match phase {
-        Phase::Idle => phase,
+        Phase::Idle(_) => phase,
         Phase::Receive(_) => phase,
         Phase::Process(_) => phase,
         Phase::Answered(response) => Phase::Transmit(Outgoing { response, sent: 0 }),
@@ -86,7 +91,7 @@ fn abort_word(phase: Phase) -> u16
     ensures { λ r. ⌜ r ≡ abortWord phase ⌝ }
 {
     match phase {
-        Phase::Idle => 0,
+        Phase::Idle(_) => 0,
         Phase::Receive(_) => 1,
         Phase::Process(request) => {
             let taking = request.taking;
@@ -101,7 +106,7 @@ fn state_number(phase: Phase) -> u16
     ensures { λ r. ⌜ r ≡ stateNumber phase ⌝ }
 {
     match phase {
-        Phase::Idle => 0,
+        Phase::Idle(_) => 0,
         Phase::Receive(_) => 1,
         Phase::Process(_) => 2,
         Phase::Answered(_) => 2,
@@ -132,7 +137,38 @@ fn clear_flags(endpoint: Endpoint, slot: usize) -> Endpoint
     Endpoint { flags: 0, ..anew }
 }
 
-// The four primitives. The opcode that is left is Get State's.
+// What a slot holds: only an Idle one has it.
+fn held_in(phase: Phase) -> Held
+    ensures { λ r. ⌜ r ≡ heldIn phase ⌝ }
+{
+    match phase {
+        Phase::Idle(held) => held,
+        Phase::Receive(_) => Held::NoResponse,
+        Phase::Process(_) => Held::NoResponse,
+        Phase::Answered(_) => Held::NoResponse,
+        Phase::Transmit(_) => Held::NoResponse,
+    }
+}
+
+// Replay: a response that the slot still holds goes to Transmit, and CPSR is 1. Else nothing happens.
+fn replay(endpoint: Endpoint, slot: usize) -> Acted
+    requires { ⌜ slot < 2 ⌝ }
+    ensures { λ r. ⌜ r ≡ Control·replay endpoint slot ⌝ }
+{
+    let s = endpoint.slots[slot];
+    let before = s.phase;
+    let held = held_in(before);
+    let Held::Last(response) = held else {
+        return Acted { endpoint, cpsr: 0 };
+    };
+    let phase = Phase::Transmit(Outgoing { response, sent: 0 });
+    Acted {
+        endpoint: with_slot(endpoint, slot, Slot { phase, ..s }),
+        cpsr: 1,
+    }
+}
+
+// The five primitives. The opcode that is left is Replay's.
 fn primitive(endpoint: Endpoint, opcode: u8, slot: usize, clear: bool) -> Acted
     requires { ⌜ slot < 2 ⌝ }
     ensures { λ r. ⌜ r ≡ Control·primitive endpoint opcode slot clear ⌝ }
@@ -156,15 +192,17 @@ fn primitive(endpoint: Endpoint, opcode: u8, slot: usize, clear: bool) -> Acted
             cpsr: abort_word(phase_of(endpoint, slot)),
         };
     }
-    let cpsr = state_word(endpoint, slot);
-    if clear {
-        Acted {
-            endpoint: clear_flags(endpoint, slot),
-            cpsr,
+    if opcode == GET_STATE {
+        let cpsr = state_word(endpoint, slot);
+        if clear {
+            return Acted {
+                endpoint: clear_flags(endpoint, slot),
+                cpsr,
+            };
         }
-    } else {
-        Acted { endpoint, cpsr }
+        return Acted { endpoint, cpsr };
     }
+    replay(endpoint, slot)
 }
 
 // A reply with this body waits for the sender of the packet. A newer one replaces it whole.
@@ -181,6 +219,13 @@ fn replied(endpoint: Endpoint, header: Header, csi: u8, body: [u8; 4]) -> Endpoi
     }
 }
 
+// Both bytes of CPSP are 0.
+fn is_zero(low: u8, high: u8) -> bool
+    ensures { λ r. ⌜ r ≡ (eqb low 0 && eqb high 0) ⌝ }
+{
+    low == 0 && high == 0
+}
+
 // A control primitive that came whole, with a right check: it acts, or is refused by an error reply.
 pub fn controlled(
     endpoint: Endpoint,
@@ -193,7 +238,7 @@ pub fn controlled(
 {
     let csi = message_header.csi;
     let opcode = message[4];
-    let fault = nvme_mi::control_fault(message_header, opcode);
+    let fault = nvme_mi::control_fault(message_header, opcode, is_zero(message[6], message[7]));
     let Fault::NoFault = fault else {
         return replied(endpoint, header, csi, nvme_mi::fault_body(fault));
     };

@@ -78,9 +78,9 @@ asks-next i c h =
 
 -- along a list: while no other command has come, the one who asked is the same
 module _ (i first requester tag : ℕ) where
-  record Since (h : History) : Type 0 where
-    grown : first ≤ h .trace i .entries
-    asker : h .trace i .entries ≡ first → (h .trace i .requester ≡ requester) × (h .trace i .tag ≡ tag)
+  pub record Since (h : History) : Type 0 where
+    pub grown : first ≤ h .trace i .entries
+    pub asker : h .trace i .entries ≡ first → (h .trace i .requester ≡ requester) × (h .trace i .tag ≡ tag)
 
   since-next : (c : Call) (h : History) → Since h → Since (next c h)
   since-next c h s = by (asks-next i c h)
@@ -89,7 +89,7 @@ module _ (i first requester tag : ℕ) where
       by (by-same a b e) = record { grown = omega (arith, s .grown, e); asker = λ k. let q = s .asker (sym e ∙ k) in (a ∙ q .0, b ∙ q .1) }
       by (by-another e) = record { grown = omega (arith, s .grown, e); asker = λ k. absurd (omega (arith, s .grown, e, k)) }
 
-  since-run : (cs : List Call) (h : History) → Since h → Since (run cs h)
+  pub since-run : (cs : List Call) (h : History) → Since h → Since (run cs h)
   unfolding run
   since-run [] h s = s
   since-run (c ∷ cs) h s = since-run cs (next c h) (since-next c h s)
@@ -118,7 +118,7 @@ fresh-after : {C : Type 0} {p q : Phase} (store : List ℕ) (l : Trace) → Stea
 fresh-after {p = p} {q = q} store l (same e) a n f there = by q (ap isProcess e ∙ a) f
   where
     by : (q : Phase) → isProcess q ≡ true → FitP q store l → Fresh q
-    by Idle k f = false-true k
+    by (Idle held) k f = false-true k
     by (Receive x) k f = false-true k
     by (Process r) k f = absurd (there (f .unfixed))
     by (Answered r) k f = false-true k
@@ -138,7 +138,7 @@ fresh-unsent i is h g (goes r e) =
 
 -- ---- lists of calls joined
 
-run-join : (xs ys : List Call) (h : History) → run (xs ++ ys) h ≡ run ys (run xs h)
+pub run-join : (xs ys : List Call) (h : History) → run (xs ++ ys) h ≡ run ys (run xs h)
 unfolding run
 run-join [] ys h = refl
 run-join (c ∷ cs) ys h = run-join cs ys (next c h)

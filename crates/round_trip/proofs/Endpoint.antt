@@ -43,6 +43,7 @@ use Rattle.machine.specs.Demands.{isIdleNow}
 use Rattle.machine.specs.Replies.{csiOf}
 use Rattle.machine.specs.declared.Assembly.{Assembly}
 use Rattle.machine.specs.declared.Request.{Request}
+use Rattle.machine.specs.declared.Held.the-variants.{NoResponse}
 use Rattle.machine.specs.declared.Phase.{Phase}
 use Rattle.machine.specs.declared.Phase.the-variants.{Idle, Receive, Process, Answered, Transmit}
 use Rattle.machine.specs.declared.Slot.{Slot}
@@ -61,7 +62,7 @@ use Rattle.round_trip.specs.Command.{commandOf, endedUnder}
 -- ---- a slot's own facts
 
 idle-gathers : (source tag : ℕ) (p : Phase) → isIdle p ≡ true → gathers source tag p ≡ false
-idle-gathers source tag Idle h = refl
+idle-gathers source tag (Idle held) h = refl
 idle-gathers source tag (Receive a) h = false-true h
 idle-gathers source tag (Process r) h = refl
 idle-gathers source tag (Answered r) h = refl
@@ -72,7 +73,7 @@ idle-kept : (source tag : ℕ) (s : Slot) → isIdle (s .phase) ≡ true → end
 idle-kept source tag s h = rw (idle-gathers source tag (s .phase) h) refl
 
 passed : (source tag i : ℕ) (p : Phase) (other : Holder) → gathers source tag p ≡ false → holderIn source tag i p other ≡ other
-passed source tag i Idle other h = refl
+passed source tag i (Idle held) other h = refl
 passed source tag i (Receive a) other h = rw h refl
 passed source tag i (Process r) other h = refl
 passed source tag i (Answered r) other h = refl
@@ -119,7 +120,7 @@ ticket-if false e i is = refl
 ended-phase : (source tag : ℕ) (s : Slot) → endedSlot source tag s .phase ≡ endedUnder source tag (s .phase)
 ended-phase source tag s = rw (receives-gathers source tag (s .phase)) (go (gathers source tag (s .phase)))
   where
-    go : (b : Bool) → (if b then idled s else s) .phase ≡ (if b then Idle else s .phase)
+    go : (b : Bool) → (if b then idled s else s) .phase ≡ (if b then Idle NoResponse else s .phase)
     go true = refl
     go false = refl
 

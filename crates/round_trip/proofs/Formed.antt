@@ -122,7 +122,7 @@ gathered-long : (h : History) → Good h → (i : ℕ) → i ≤ 1 → (source t
 gathered-long h g i is source tag r = by (phaseAt (h .world) i) refl r
   where
     by : (p : Phase) → phaseAt (h .world) i ≡ p → receivesFrom source tag p ≡ true → 64 ≤ length (h .trace i .request)
-    by Idle t e = false-true e
+    by (Idle held) t e = false-true e
     by (Receive a) t e =
         let held : take (a .length) (storeAt (h .world) i) ≡ h .trace i .request = rw t at (g .fits i is .phase-fits) in
         let f : PhaseFacts (slotAt (h .world .endpoint) i .paused) (Receive a) = rw t at (facts-at i is (g .sound .state)) in
@@ -153,7 +153,7 @@ completed-formed h g i is t body e old =
     by (phaseAt (h .world) i) refl (b .1)
   where
     by : (p : Phase) → phaseAt (h .world) i ≡ p → completeIn (slotAt (h .world .endpoint) i .ticket .0) t body p ≡ 0 → WellFormed true (responseFor i (h .trace i .request) body)
-    by Idle q n = absurd (omega (arith, n))
+    by (Idle held) q n = absurd (omega (arith, n))
     by (Receive x) q n = absurd (omega (arith, n))
     by (Process r) q n =
         let c = past (not (eqb (t .0) (slotAt (h .world .endpoint) i .ticket .0))) 32 _ 0 (omega arith) (omega arith) n in

@@ -4,3 +4,4 @@ pub mod Formed
 pub mod Response
 pub mod Primitive
 pub mod Answer
+pub mod Replay

@@ -19,7 +19,7 @@ use Rattle.machine.specs.Valid.{Sound}
 use Rattle.machine.specs.Calls.{Call, receive, Event, number, handed-out, step}
 use Rattle.machine.specs.History.{History, hasSom, bytesFrom4, isControl, next, run, start}
 use Rattle.machine.specs.Demands.{replyPacket}
-use Rattle.machine.specs.Replies.{csiOf, slotFound, cpsrOf, bodyOf, Replied, GoesWithin, ReplyFate, replaced, sent, waiting, replyFate}
+use Rattle.machine.specs.Replies.{csiOf, wrongReplay, slotFound, cpsrOf, bodyOf, Replied, GoesWithin, ReplyFate, replaced, sent, waiting, replyFate}
 use Rattle.machine.proofs.Histories.{good-every}
 use Rattle.machine.proofs.Replies.{primitive-done, control-replied, reply-goes}
 use Rattle.controller.specs.State.{Side, Valid}
@@ -46,7 +46,7 @@ slot-bits : (i : ℕ) → i ≤ 1 → (i / 128 % 2 ≡ 0) × (i / 8 % 16 ≡ 0)
 slot-bits i h = omega arith
 
 -- it passes each test of a control primitive
-is-control : (eid source tag : ℕ) (p : Primitive) → tag ≤ 7 → p .slot ≤ 1 → isControl eid (primitivePacket source eid tag p) ≡ true
+pub is-control : (eid source tag : ℕ) (p : Primitive) → tag ≤ 7 → p .slot ≤ 1 → isControl eid (primitivePacket source eid tag p) ≡ true
 unfolding withCheck
 is-control eid source tag p t s =
     let b = header-bits tag t .0 in
@@ -121,10 +121,14 @@ module _ (s : Side) (v : Valid (s .requester)) (size : length (s .store) ≡ 422
 
 body-four : (m : List ℕ) (cpsr : ℕ) → length (bodyOf m cpsr) ≡ 4
 body-four m cpsr =
-    if-ind (λ (x : List ℕ). length x ≡ 4) (isSet (byteAt m 2) 0) (λ _. refl)
-    (λ _. if-ind (λ (x : List ℕ). length x ≡ 4) (isSet (byteAt m 2) 1) (λ _. refl) (λ _. if-ind (λ (x : List ℕ). length x ≡ 4) (ltb 3 (byteAt m 4)) (λ _. refl) (λ _. refl)))
+    if-ind Four (isSet (byteAt m 2) 0) (λ _. refl)
+    (λ _.
+    if-ind Four (isSet (byteAt m 2) 1) (λ _. refl) (λ _. if-ind Four (ltb 4 (byteAt m 4)) (λ _. refl) (λ _. if-ind Four (wrongReplay m) (λ _. refl) (λ _. refl))))
+  where
+    Four : List ℕ → Type 0
+    Four x = length x ≡ 4
 
-run-then : (xs : List Call) (c : Call) (h : History) → run (xs ++ (c ∷ [])) h ≡ next c (run xs h)
+pub run-then : (xs : List Call) (c : Call) (h : History) → run (xs ++ (c ∷ [])) h ≡ next c (run xs h)
 unfolding run
 run-then [] c h = refl
 run-then (x ∷ xs) c h = run-then xs c (next x h)

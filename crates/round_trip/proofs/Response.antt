@@ -364,7 +364,7 @@ route-to i h r to under =
     ∙ ap (λ (x : ℕ). record { destination = h .trace i .requester; source = h .world .endpoint .eid; to = false; tag = x }) under
 
 -- what was sent, and that there is a response
-all-sent : (i : ℕ) → i ≤ 1 → (h : History) → Good h → isUnsent i h ≡ true → (ys : List Call) (k : History) → fate i ys h ≡ delivered k
+pub all-sent : (i : ℕ) → i ≤ 1 → (h : History) → Good h → isUnsent i h ≡ true → (ys : List Call) (k : History) → fate i ys h ≡ delivered k
     → (sentUntil i ys h ≡ cut 64 (routeOf h i) (h .trace i .response)) × (h .trace i .response ≡ [] → ⊥)
 all-sent i is h g unsent ys k f = by (phaseAt (h .world) i) refl unsent
   where
@@ -373,7 +373,7 @@ all-sent i is h g unsent ys k f = by (phaseAt (h .world) i) refl unsent
 
     by : (p : Phase) → phaseAt (h .world) i ≡ p → (isAnswered p || (isTransmit p && eqb (h .trace i .packets) 0)) ≡ true
         → (sentUntil i ys h ≡ cut 64 (routeOf h i) (h .trace i .response)) × (h .trace i .response ≡ [] → ⊥)
-    by Idle t u = false-true u
+    by (Idle held) t u = false-true u
     by (Receive a) t u = false-true u
     by (Process r) t u = false-true u
     by (Answered r) t u =

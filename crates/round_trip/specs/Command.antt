@@ -18,6 +18,7 @@ use Rattle.machine.specs.Replies.{csiOf}
 use Rattle.machine.specs.declared.Ticket.{Ticket}
 use Rattle.machine.specs.declared.Taking.the-variants.{Untaken}
 use Rattle.machine.specs.declared.Request.{Request}
+use Rattle.machine.specs.declared.Held.the-variants.{NoResponse}
 use Rattle.machine.specs.declared.Phase.{Phase}
 use Rattle.machine.specs.declared.Phase.the-variants.{Idle, Process}
 use Rattle.controller.specs.Send.{sendSays, cutTo}
@@ -46,9 +47,9 @@ commandOf source tag m = record { source = source; tag = tag; kind = kindOf m; l
 abbrev pub nextOf : World → ℕ → Ticket
 nextOf w i = record { 0 = (slotAt (w .endpoint) i .ticket .0 + 1) % 2 ^ 32 }
 
--- an assembly of this source and tag has ended
+-- an assembly of this source and tag has ended; a slot that so enters Idle holds no response
 abbrev pub endedUnder : ℕ → ℕ → Phase → Phase
-endedUnder source tag p = if receivesFrom source tag p then Idle else p
+endedUnder source tag p = if receivesFrom source tag p then Idle NoResponse else p
 
 -- of a slot that the packets are not for
 pub record Untouched (source tag : ℕ) (before after : World) (j : ℕ) : Type 0 where

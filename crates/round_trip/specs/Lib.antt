@@ -2,3 +2,4 @@ pub mod Command
 pub mod Response
 pub mod Primitive
 pub mod Answer
+pub mod Replay

@@ -4,12 +4,13 @@ ghost use mathlib.Core.Bool.{not, _||_};
 ghost use Prim.Native.Nat.{_<_};
 ghost use lib.Dec.{eqb};
 ghost use Rattle.lent.specs.Choice.{if_then_else_};
-ghost use Rattle.machine.specs.State.{slotAt, withSlot, isIdle, idled as State·idled, settled as State·settled, ended as State·ended};
+ghost use Rattle.machine.specs.State.{slotAt, withSlot, isIdle, idled as State·idled, holding as State·holding, settled as State·settled, ended as State·ended};
 ghost use Rattle.machine.specs.Poll.{otherSlot};
 ghost use Rattle.machine.specs.Wire.{store-size};
 ghost use Rattle.machine.specs.Control.{pausedSlot, pause as Control·pause};
 use machine::Done;
 use machine::Endpoint;
+use machine::Held;
 use machine::Outgoing;
 use machine::Phase;
 use machine::Response;
@@ -50,7 +51,7 @@ pub fn is_idle(phase: Phase) -> bool
     ensures { λ r. ⌜ r ≡ isIdle phase ⌝ }
 {
     match phase {
-        Phase::Idle => true,
+        Phase::Idle(_) => true,
         Phase::Receive(_) => false,
         Phase::Process(_) => false,
         Phase::Answered(_) => false,
@@ -58,14 +59,25 @@ pub fn is_idle(phase: Phase) -> bool
     }
 }
 
-// A slot that enters Idle loses its pause flag.
+// A slot that enters Idle loses its pause flag, and holds no response.
 pub fn idled(slot: Slot) -> Slot
     ensures { λ r. ⌜ r ≡ State·idled slot ⌝ }
 {
     Slot {
         paused: false,
-        phase: Phase::Idle,
+        phase: Phase::Idle(Held::NoResponse),
         ..slot
+    }
+}
+
+// A slot whose last packet went is Idle, and holds its response.
+pub fn holding(slot: Slot, response: Response) -> Slot
+    ensures { λ r. ⌜ r ≡ State·holding slot response ⌝ }
+{
+    let idle = idled(slot);
+    Slot {
+        phase: Phase::Idle(Held::Last(response)),
+        ..idle
     }
 }
 

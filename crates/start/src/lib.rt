@@ -6,6 +6,7 @@ ghost use Rattle.machine.specs.Valid.{Valid};
 use machine::Done;
 use machine::Endpoint;
 use machine::FIRST_EID;
+use machine::Held;
 use machine::LAST_EID;
 use machine::Phase;
 use machine::Slot;
@@ -22,7 +23,7 @@ fn fresh(ticket: Ticket) -> Slot
         ticket,
         paused: false,
         busy: false,
-        phase: Phase::Idle,
+        phase: Phase::Idle(Held::NoResponse),
     }
 }
 

@@ -67,22 +67,23 @@ script("exchange", *ENDS, (await_from(8), 0), requester_looks("8:1", eid=9),
        (receive_all(packets(COMMAND)), [0, 1]),
        looks("process:9:1:1:100:untaken", tickets=(1, 0), store0=COMMAND), (take(), "0 1"),
        (read(), f"100 {COMMAND.hex()}"), (complete(1, TWO_BODY), 0), *carried(cut(TWO), "1 100"),
-       requester_looks(eid=9, store=TWO), looks(tickets=(1, 0), turn=1, store0=TWO), (poll(), NOTHING))
+       requester_looks(eid=9, store=TWO), looks("idle:9:1:100", tickets=(1, 0), turn=1, store0=TWO),
+       (poll(), NOTHING))
 script("exchange-slot-1", *ENDS, (await_from(8, 7), 0),
        (cut_message(OTHER, tag=7), written([packet(OTHER, tag=7)])), (receive(packet(OTHER, tag=7)), 1),
        (take(1), "0 1"), (read(1), f"20 {OTHER.hex()}"), (complete(1, BODY, 1), 0),
        *carried([answered(*BODY, slot=1, tag=7)], "1 12"), requester_looks(eid=9, store=response(BODY, 1)),
-       looks(tickets=(0, 1), store1=over(response(BODY, 1), OTHER)))
+       looks(slot1="idle:9:7:12", tickets=(0, 1), store1=over(response(BODY, 1), OTHER)))
 script("exchange-66-packets", *ENDS, (await_from(8), 0), (cut_message(LONG), written(packets(LONG))),
        (receive_all(packets(LONG)), [0] * 65 + [1]), (take(), "0 1"), (read(), f"4224 {LONG.hex()}"),
        (complete(1, LONG_BODY), 0), *carried(cut(FULL), "1 4224"), requester_looks(eid=9, store=FULL),
-       looks(tickets=(1, 0), turn=1, store0=FULL))
+       looks("idle:9:1:4224", tickets=(1, 0), turn=1, store0=FULL))
 script("exchange-other-eids", (requester_setup(254), 0), (setup(100), 0), (await_from(100), 0),
        (cut_message(COMMAND, destination=100), written(packets(COMMAND, source=254, destination=100))),
        (receive_all(packets(COMMAND, source=254, destination=100)), [0, 1]), (take(), "0 1"),
        (read(), f"100 {COMMAND.hex()}"), (complete(1, BODY), 0),
        *carried([sent(ANSWER, to=254, source=100)], "1 12"), requester_looks(eid=254, store=ANSWER),
-       looks(tickets=(1, 0), turn=1, eid=100, store0=over(ANSWER, COMMAND)))
+       looks("idle:254:1:12", tickets=(1, 0), turn=1, eid=100, store0=over(ANSWER, COMMAND)))
 # Each packet is gathered as soon as it was handed out.
 script("exchange-by-turns", *ENDS, (await_from(8), 0), *TAKEN, (complete(1, TWO_BODY), 0),
        *carried(cut(TWO)[:1], 0), requester_looks("8:1", "0:64", eid=9, store=GATHERED),
@@ -103,7 +104,6 @@ for name, opcode, body, after in (("pause", PAUSE, (0, 0x5A, 1, 0), dict(IS_TAKE
                                   ("resume", RESUME, (0, 0x5A, 0, 0), IS_TAKEN),
                                   ("abort", ABORT, (0, 0x5A, 2, 0), dict(IS_TAKEN, slot0="idle")),
                                   ("get-state", GET_STATE, (0, 0x5A, 2, 0), IS_TAKEN),
-                                  ("opcode-4", 4, (3, 0, 0, 0), IS_TAKEN),
                                   ("opcode-255", 255, (3, 0, 0, 0), IS_TAKEN)):
     told = response(bytes(body), kind=0)
     script(f"primitive-{name}", *ENDS, *TAKEN, (await_from(8, 2), 0),

@@ -36,8 +36,9 @@ script("look-phases", (receive(start(fill=b"\7\0")), 0),
        looks("transmit:9:1:65:0", tickets=(1, 0), store0=over(TWO, command(100, fill=b"\7\0"))),
        (poll(), polled(cut(TWO)[0])),                 # slot 0 began, so slot 1 goes first next time
        looks("transmit:9:1:65:1", tickets=(1, 0), turn=1, store0=over(TWO, command(100, fill=b"\7\0"))),
-       (poll(), polled(cut(TWO)[1])),
-       looks(tickets=(1, 0), turn=1, store0=over(TWO, command(100, fill=b"\7\0"))), (poll(), NOTHING))
+       (poll(), polled(cut(TWO)[1])),                 # Idle, and the slot holds what it sent
+       looks("idle:9:1:65", tickets=(1, 0), turn=1, store0=over(TWO, command(100, fill=b"\7\0"))),
+       (poll(), NOTHING))
 script("look-slot-1", (receive(packets(command(100, 1, kind=4), first=3, source=200, tag=7)[0]), 0),
        looks(slot1="receive:200:7:3:64", store1=command(100, 1, kind=4)[:64]),
        (receive(packets(command(100, 1, kind=4), first=3, source=200, tag=7)[1]), 1),
@@ -46,7 +47,8 @@ script("look-slot-1", (receive(packets(command(100, 1, kind=4), first=3, source=
        looks(slot1="transmit:200:7:12:0", tickets=(0, 1),
              store1=over(response(BODY, 1, 4), command(100, 1, kind=4))),
        (poll(), polled(sent(response(BODY, 1, 4), to=200, tag=7))),
-       looks(tickets=(0, 1), store1=over(response(BODY, 1, 4), command(100, 1, kind=4))))
+       looks(slot1="idle:200:7:12", tickets=(0, 1),
+             store1=over(response(BODY, 1, 4), command(100, 1, kind=4))))
 script("look-answered", (receive(packet(command(ciap=1))), 1),
        looks(WAITS, tickets=(1, 0), paused=(1, 0), store0=command(ciap=1)), (take(), "0 1"),
        (complete(1, BODY), 0),
@@ -56,7 +58,7 @@ script("look-answered", (receive(packet(command(ciap=1))), 1),
              store0=over(response(BODY), command(ciap=1))), (poll(), polled(replied(0))),
        looks("transmit:9:1:12:0", tickets=(1, 0), last=1, store0=over(response(BODY), command(ciap=1))),
        (poll(), polled(answered(*BODY))),
-       looks(tickets=(1, 0), turn=1, store0=over(response(BODY), command(ciap=1))))
+       looks("idle:9:1:12", tickets=(1, 0), turn=1, store0=over(response(BODY), command(ciap=1))))
 script("look-answered-at-once", (receive(packet(command(8, kind=3, ciap=1))), 1),
        looks("answered:9:1:12", tickets=(1, 0), paused=(1, 0), store0=response(bytes((4, 3, 1, 0)), kind=3)),
        (receive(packet(command(8, slot=1), tag=3)), 1),
@@ -114,7 +116,7 @@ script("66-packets", (receive_all(packets(LONG)), [0] * 65 + [1]),
        ([poll()] * 65, [polled(line) for line in cut(response(LONG_BODY))[:65]]),
        looks("transmit:9:1:4224:65", tickets=(1, 0), turn=1, store0=response(LONG_BODY)),
        (poll(), polled(cut(response(LONG_BODY))[65])),
-       looks(tickets=(1, 0), turn=1, store0=response(LONG_BODY)))
+       looks("idle:9:1:4224", tickets=(1, 0), turn=1, store0=response(LONG_BODY)))
 script("67-packets", (receive_all(packets(LONG)[:-1]), [0] * 65), (receive(LAST_OPEN), 0),
        looks("receive:9:1:1:4224", store0=LONG), (receive(packet(b"\0", som=0, sequence=66)), 23),
        looks(store0=LONG), (receive(packet(b"\0", som=0, sequence=67)), 21))
@@ -335,7 +337,7 @@ script("36-command-packet", *TAKEN, (complete(1, bytes(120)), 0), (poll(0), SHOR
        (poll(68), polled(cut(response(bytes(120)))[0])), (poll(67), SHORT),
        looks("transmit:9:1:128:1", tickets=(1, 0), turn=1, store0=response(bytes(120))),
        (poll(65535), polled(cut(response(bytes(120)))[1])),
-       looks(tickets=(1, 0), turn=1, store0=response(bytes(120))))
+       looks("idle:9:1:128", tickets=(1, 0), turn=1, store0=response(bytes(120))))
 script("poll-40-first", (stores(4223), 0), (poll(0), WRONG_STORES), (poll(67), WRONG_STORES),
        (poll(65535), WRONG_STORES), (stores(), 0), (receive(ask(PAUSE)), 2), (stores(4224, 0), 0),
        (poll(0), WRONG_STORES), (poll(68), WRONG_STORES), looks(reply=reply(0), lent=(4224, 0)),

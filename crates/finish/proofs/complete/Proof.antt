@@ -138,7 +138,7 @@ returns-3 c =
     let s = given k in
     by-phase k
     (rw (c .ended3 .ensures)
-    (not-process (λ (p : Phase). outcome no-command (lent s) ≡ rows s p) refl (λ a. refl) (λ r. refl) (λ r. refl) (phase-at s) (c .before .match .keys2)))
+    (not-process (λ (p : Phase). outcome no-command (lent s) ≡ rows s p) (λ k. refl) (λ a. refl) (λ r. refl) (λ r. refl) (phase-at s) (c .before .match .keys2)))
 
 returns-4 : tie.Need-returns-4
 returns-4 c =

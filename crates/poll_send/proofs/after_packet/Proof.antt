@@ -14,9 +14,10 @@ start k = k .before .before
 
 returns : tie.Need-returns
 returns c =
-    let s = start (c .before .before) in
+    let taken = c .before .before in
+    let s = start (taken .before) in
     let r = s .args .outgoing in
-    rw (c .idled .ensures, last-packet unit _ _ (omega arith) (s .pre .0), le-leb (r .response .length) (unit * r .sent + unit) (omega (arith, c .before .if1 .taken)))
+    rw (c .holding .ensures, last-packet unit _ _ (omega arith) (s .pre .0), le-leb (r .response .length) (unit * r .sent + unit) (omega (arith, taken .if1 .taken)))
 
 returns-2 : tie.Need-returns-2
 returns-2 c =

@@ -15,7 +15,7 @@ use Rattle.receive_assembly.proofs.holder_in.Statement.{statement}
 use Rattle.receive_assembly.proofs.holder_in.Tie as tie
 
 not-gathering : (source tag i : ℕ) (p : Phase) (other : Holder) → OneOf (0 ∷ 2 ∷ 3 ∷ 4 ∷ []) (tagOf the-type p) → other ≡ holderIn source tag i p other
-not-gathering source tag i Idle other h = refl
+not-gathering source tag i (Idle held) other h = refl
 not-gathering source tag i (Receive a) other h = absurd (miss (0 ∷ 2 ∷ 3 ∷ 4 ∷ []) 1 tt h)
 not-gathering source tag i (Process r) other h = refl
 not-gathering source tag i (Answered r) other h = refl

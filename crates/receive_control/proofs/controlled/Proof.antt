@@ -3,16 +3,20 @@
 -- Assumes nothing.
 use Prim.Native.Nat.{ℕ}
 use mathlib.Core.Path.{_≡_, refl, sym}
+use mathlib.Core.Bool.{Bool}
 use mathlib.Core.List.{List, [], _∷_}
 use native.Mathlib.Nat.{div-one}
 use types.Run.{OneOf, miss}
 use denote.Enum.Declared.{tagOf}
 use borrow.Author.Needs.{needs}
 use Rattle.mctp.specs.declared.Header.{Header}
+use Rattle.nvme_mi.specs.Message.{controlFault}
 use Rattle.nvme_mi.specs.Response.{faultBody}
+use Rattle.nvme_mi.specs.declared.MessageHeader.{MessageHeader}
 use Rattle.nvme_mi.specs.declared.Fault.{Fault}
 use Rattle.nvme_mi.specs.declared.Fault.the-variants.{NoFault, Parameter, Failure}
 use Rattle.nvme_mi.proofs.Fault.{the-type}
+use Rattle.machine.specs.Wire.{opcodeOf, noParameter}
 use Rattle.machine.specs.Control.{replied, controlledBy, controlled}
 use Rattle.machine.specs.declared.Endpoint.{Endpoint}
 use Rattle.receive_control.proofs.controlled.Statement.{statement}
@@ -30,29 +34,29 @@ unfolding controlled
 returns c =
     let faulty = c .before .before in
     let tested = faulty .before in
-    let a = tested .before .before .before .args in
-    rw (c .replied .ensures, c .before .fault-body .ensures, ← tested .control-fault .ensures)
+    let a = tested .before .before .before .before .before .before .args in
+    rw (c .replied .ensures, c .before .fault-body .ensures, ← tested .before .is-zero .ensures, ← tested .control-fault .ensures)
     (sym (faulted (a .endpoint) (a .header) (a .message-header .csi) (a .message .now) (tested .control-fault .result) (faulty .match .keys2)))
 
-returns-2 : tie.Need-returns-2
+-- no test failed
+unfaulted : (e : Endpoint) (h : Header) (mh : MessageHeader) (m : List ℕ) (f : Fault) (b : Bool) → f ≡ controlFault mh (opcodeOf m) b → b ≡ noParameter m → f ≡ NoFault
+    → controlled e h mh m ≡ controlledBy e h (mh .csi) m NoFault
 unfolding controlled
+unfaulted e h mh m f b k z n = rw (← z, ← k, n) refl
+
+returns-2 : tie.Need-returns-2
 returns-2 c =
     let body-made = c .before .before in
     let acted = body-made .before .before in
     let faultless = acted .before .before in
     let tested = faultless .before .before in
-    rw (
-      c .replied2 .ensures,
-      body-made .success-body .ensures,
-      acted .primitive .ensures,
-      ← tested .control-fault .ensures,
-      faultless .enum-told .given .1,
-      div-one,
-    )
+    let a = tested .before .before .before .before .before .before .args in
+    let row = unfaulted (a .endpoint) (a .header) (a .message-header) (a .message .now) _ _ (tested .control-fault .ensures) (tested .before .is-zero .ensures) (faultless .enum-told .given .1) in
+    rw (c .replied2 .ensures, body-made .success-body .ensures, acted .primitive .ensures, row, div-one)
 
 pub controlled-spec : {M : Type 1} → statement M
 controlled-spec =
     tie.close
-    (tie.spec (λ c. search needs) (λ c κs. search needs) (λ c. search needs) (λ c κs. search needs) (λ c κs. search needs) returns
+    (tie.spec (λ c. search needs) (λ c. search needs) (λ c. search needs) (λ c κs. search needs) (λ c κs. search needs) (λ c. search needs) (λ c κs. search needs) (λ c κs. search needs) returns
     (λ c. search needs) (λ c. search needs) (λ c κs. search needs) (λ c. search needs) (λ c κs. search needs) (λ c κs. search needs)
     returns-2)

@@ -33,21 +33,32 @@ returns-3 c =
     let d = t .before in
     rw (p .before .dropped .ensures, c .abort-word .ensures, p .phase-of .ensures, not-pause d, not-resume d, eq-eqb _ _ (t .if3 .taken))
 
--- what the other three leave: Get State
-at-state : (s : tie.After-state-word) → let a = s .before .before .before .before .args in
+-- Get State
+at-state : (s : tie.After-state-word) → let a = s .before .before .before .before .before .args in
     primitive (a .endpoint) (a .opcode) (a .slot) (a .clear)
     ≡ acted (if a .clear then clearFlags (a .endpoint) (a .slot) else a .endpoint) (s .state-word .result)
 unfolding primitive
-at-state s = let t = s .before in rw (s .state-word .ensures, not-pause (t .before), not-resume (t .before), ne-eqb _ _ (t .if3 .left))
+at-state s =
+    let t = s .before in
+    let d = t .before in
+    rw (s .state-word .ensures, not-pause (d .before), not-resume (d .before), ne-eqb _ _ (d .if3 .left), eq-eqb _ _ (t .if4 .taken))
 
 returns-4 : tie.Need-returns-4
-returns-4 c = rw (at-state (c .before .before), c .clear-flags .ensures, c .before .if4 .taken)
+returns-4 c = rw (at-state (c .before .before), c .clear-flags .ensures, c .before .if5 .taken)
 
 returns-5 : tie.Need-returns-5
-returns-5 c = rw (at-state (c .before), c .if4 .left)
+returns-5 c = rw (at-state (c .before), c .if5 .left)
+
+-- what the other four leave: Replay
+returns-6 : tie.Need-returns-6
+unfolding primitive
+returns-6 c =
+    let t = c .before in
+    let d = t .before in
+    rw (c .replay .ensures, not-pause (d .before), not-resume (d .before), ne-eqb _ _ (d .if3 .left), ne-eqb _ _ (t .if4 .left))
 
 pub primitive-spec : {M : Type 1} → statement M
 primitive-spec =
     tie.close
     (tie.spec (λ c κs. search needs) (λ c κs. search needs) returns (λ c κs. search needs) returns-2 (λ c κs. search needs)
-    (λ c κs. search needs) (λ c κs. search needs) returns-3 (λ c κs. search needs) (λ c κs. search needs) returns-4 returns-5)
+    (λ c κs. search needs) (λ c κs. search needs) returns-3 (λ c κs. search needs) (λ c κs. search needs) returns-4 returns-5 (λ c κs. search needs) returns-6)

@@ -15,7 +15,7 @@ returns : tie.Need-returns
 returns c =
     let s = c .before .before in
     let store = s .args .store .now in
-    not-process (λ (p : Phase). [] ≡ partOf store p) refl (λ a. refl) (λ r. refl) (λ r. refl)
+    not-process (λ (p : Phase). [] ≡ partOf store p) (λ k. refl) (λ a. refl) (λ r. refl) (λ r. refl)
     (s .args .slot .phase) (c .before .match .keys2)
 
 slice-aggregate-result-3 : tie.Need-slice-aggregate-result-3

@@ -39,7 +39,7 @@ returns-2 c =
     let i = s .args .slot in
     done s
     (rw (lt-ltb _ _ (slot-known .if1 .left))
-    (not-process (λ (p : Phase). takeEnded (Refused no-command) e ≡ takenFrom e i p) refl (λ a. refl) (λ r. refl) (λ r. refl)
+    (not-process (λ (p : Phase). takeEnded (Refused no-command) e ≡ takenFrom e i p) (λ k. refl) (λ a. refl) (λ r. refl) (λ r. refl)
     (slotAt e i .phase) (c .match .keys2)))
 
 returns-3 : tie.Need-returns-3
