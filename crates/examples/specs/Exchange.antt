@@ -95,13 +95,12 @@ answered = run (received-calls ++ (take! 1 ∷ complete 1 (ticket 1) (replicate 
 abbrev pub polls : List Call
 polls = polling ∷ polling ∷ polling ∷ []
 
--- it is in Transmit, no packet of it went, and the last goes with the second poll
-pub response-ready : (yes (isTransmit (phaseAt (answered .world) 1)) ∷ yes (isUnsent 1 answered) ∷ seen 1 (fate 1 polls answered) ∷ []) ≡ (1 ∷ []) ∷ (1 ∷ []) ∷ (1 ∷ 2 ∷ 69 ∷ []) ∷ []
-unfolding answered fate run start readHeader joinRefusal cutPacket commandFault response withCheck checkRight crc32c reflect register steps stepCrc
-response-ready = refl
+-- it is in Transmit, no packet of it went, and the last goes with the second poll; both packets
+abbrev ready : History → List (List ℕ)
+ready h = yes (isTransmit (phaseAt (h .world) 1)) ∷ yes (isUnsent 1 h) ∷ seen 1 (fate 1 polls h) ∷ sentUntil 1 polls h
 
-pub back : sentUntil 1 polls answered ≡ first-back ∷ second-back ∷ []
-unfolding answered sentUntil run start readHeader joinRefusal cutPacket commandFault response withCheck checkRight crc32c reflect register steps stepCrc
+pub back : ready answered ≡ (1 ∷ []) ∷ (1 ∷ []) ∷ (1 ∷ 2 ∷ 69 ∷ []) ∷ first-back ∷ second-back ∷ []
+unfolding answered fate sentUntil run start readHeader joinRefusal cutPacket commandFault response withCheck checkRight crc32c reflect register steps stepCrc
 back = refl
 
 -- the requester gathers it: 0, then 1 with 69 bytes

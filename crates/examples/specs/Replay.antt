@@ -3,7 +3,7 @@
 -- Assumes nothing.
 use Prim.Native.Nat.{ℕ}
 use mathlib.Core.Path.{_≡_, refl}
-use mathlib.Core.List.{List, [], _∷_}
+use mathlib.Core.List.{List, [], _∷_, _++_}
 use lib.ListN.{take, replicate}
 use Rattle.crc32c.specs.Crc32c.{crc32c, reflect, register, steps, step as stepCrc}
 use Rattle.mctp.specs.Header.{readHeader}
@@ -38,33 +38,47 @@ pub replay-built : take 16 (primitiveTo controller 8 1 (replayOf 1 0x5A) (replic
 unfolding primitiveTo cutPacket withCheck crc32c reflect register steps stepCrc
 replay-built = refl
 
--- the response was sent: slot 1 holds its 69 bytes for EID 9 under tag 1
+-- after the response was sent, and after the Replay
 pub held : History
 held = run polls answered
 
-pub held-premise : (shownHeld (heldAt (answered .world) 1) ∷ shownHeld (heldAt (held .world) 1) ∷ (held .trace 1 .entries ∷ answered .trace 1 .entries ∷ []) ∷ yes (isReplay 1 8 replay-1) ∷ [])
-    ≡ [] ∷ (9 ∷ 1 ∷ 69 ∷ []) ∷ (1 ∷ 1 ∷ []) ∷ (1 ∷ []) ∷ []
-unfolding held answered run start readHeader joinRefusal cutPacket commandFault response withCheck checkRight crc32c reflect register steps stepCrc
-held-premise = refl
-
--- the Replay is answered with 2; no packet of the response has gone then, and slot 1 holds nothing
 pub replayed : History
 replayed = next (receive replay-1) held
 
-pub replay-done : (answer (step (receive replay-1) (held .world) .event) ∷ yes (isUnsent 1 replayed) ∷ shownHeld (heldAt (replayed .world) 1) ∷ []) ≡ (2 ∷ []) ∷ (1 ∷ []) ∷ [] ∷ []
-unfolding replayed held answered step next run start readHeader joinRefusal cutPacket commandFault controlFault response withCheck checkRight crc32c reflect register steps stepCrc
-replay-done = refl
+-- ---- the table
 
--- the reply, with CPSR 1
-pub replay-reply : replayed .world .endpoint .reply ≡ 0x84 ∷ 0x81 ∷ 0 ∷ 0 ∷ 0 ∷ 0x5A ∷ 1 ∷ 0 ∷ 0x53 ∷ 0x8D ∷ 0x02 ∷ 0xD7 ∷ []
-unfolding replayed held answered step next run start readHeader joinRefusal cutPacket commandFault controlFault response withCheck checkRight crc32c reflect register steps stepCrc
-replay-reply = refl
+-- of the history with the response sent, and of the one after the Replay
+abbrev shown : History → History → List (List ℕ)
+shown h k =
+    -- held-is: slot 1 held nothing while it sent, and holds 69 bytes for EID 9 under tag 1 then; it has had one command
+    shownHeld (heldAt (answered .world) 1)
+    ∷ shownHeld (heldAt (h .world) 1)
+    ∷ (h .trace 1 .entries ∷ [])
+    -- replay-sends: a Replay of slot 1, answered with 2; no packet of the response has gone then, and the slot holds nothing
+    ∷ yes (isReplay 1 8 replay-1)
+    ∷ answer (step (receive replay-1) (h .world) .event)
+    ∷ yes (isUnsent 1 k)
+    ∷ shownHeld (heldAt (k .world) 1)
+    -- its reply, with CPSR 1
+    ∷ k .world .endpoint .reply
+    -- replay-arrives: the reply goes first, then both packets; six polls were counted in all, and 69 bytes joined
+    ∷ seen 1 (fate 1 polls k)
+    -- replay-same, replay-returns: the same two packets as the first time, and the slot holds the response again
+    ∷ (sentUntil 1 polls k ++ (shownHeld (heldAt (run polls k .world) 1) ∷ []))
 
--- the reply goes first, then both packets: the same as the first time
-pub again : sentUntil 1 polls replayed ≡ first-back ∷ second-back ∷ []
-unfolding replayed held answered sentUntil step next run start readHeader joinRefusal cutPacket commandFault controlFault response withCheck checkRight crc32c reflect register steps stepCrc
+pub again : shown held replayed
+    ≡ []
+    ∷ (9 ∷ 1 ∷ 69 ∷ [])
+    ∷ (1 ∷ [])
+    ∷ (1 ∷ [])
+    ∷ (2 ∷ [])
+    ∷ (1 ∷ [])
+    ∷ []
+    ∷ (0x84 ∷ 0x81 ∷ 0 ∷ 0 ∷ 0 ∷ 0x5A ∷ 1 ∷ 0 ∷ 0x53 ∷ 0x8D ∷ 0x02 ∷ 0xD7 ∷ [])
+    ∷ (1 ∷ 6 ∷ 69 ∷ [])
+    ∷ first-back
+    ∷ second-back
+    ∷ (9 ∷ 1 ∷ 69 ∷ [])
+    ∷ []
+unfolding held replayed answered fate sentUntil step next run start readHeader joinRefusal cutPacket commandFault controlFault response withCheck checkRight crc32c reflect register steps stepCrc
 again = refl
-
-pub again-seen : (seen 1 (fate 1 polls replayed) ∷ shownHeld (heldAt (run polls replayed .world) 1) ∷ []) ≡ (1 ∷ 6 ∷ 69 ∷ []) ∷ (9 ∷ 1 ∷ 69 ∷ []) ∷ []
-unfolding replayed held answered fate step next run start readHeader joinRefusal cutPacket commandFault controlFault response withCheck checkRight crc32c reflect register steps stepCrc
-again-seen = refl

@@ -162,8 +162,8 @@ module _ (w₀ : World) (packet : List ℕ) where
     pub kind : messageHeader message .nmimt ≡ control
     pub right : checkRight message ≡ true
 
-  -- where a packet is refused without its slot: by the second table, for a control primitive's check, or because no slot is in Receive with its source
-  -- and tag
+  -- where a packet is refused without its slot: by the second table, for a control primitive's check, or because no slot is in Receive with its
+  -- source and tag
   pub data Ground : ℕ → Type 0 where
     in-table : {n : ℕ} → hasSom packet ≡ true → 15 ≤ n → n ≤ 18 → Ground n
     of-control : hasSom packet ≡ true → messageHeader message .nmimt ≡ control → Ground 19

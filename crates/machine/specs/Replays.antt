@@ -1,6 +1,6 @@
--- What an Idle slot holds, of document 02: what it is, when a slot comes to hold it, what loses it and what keeps it; and what a Replay makes of it. The
--- words are written from the documents and borrow no test of the machine. The proofs: `held-is`, `held-moves`, `replay-sends`, `replay-arrives`
--- (proofs/Replays).
+-- What an Idle slot holds, of document 02: what it is, when a slot comes to hold it, what loses it and what keeps it; and what a Replay makes of
+-- it. The words are written from the documents and borrow no test of the machine. The proofs: `held-is`, `held-moves`, `replay-sends`,
+-- `replay-arrives` (proofs/Replays).
 -- Assumes nothing.
 use Prim.Native.Nat.{ℕ, _+_, _/_, _%_, _≤_}
 use mathlib.Core.Path.{_≡_}
@@ -55,8 +55,8 @@ isReplay i eid p = isPrimitive 4 eid p && noCpsp (bytesFrom4 p) && eqb (byteAt (
 abbrev pub replays : ℕ → Call → World → Bool
 replays i c w = ofCall (λ p. isReplay i (w .endpoint .eid) p) (λ buffer. false) false false c
 
--- after its last packet a slot holds the response. "The held response is lost once a command packet is stored for the slot [..], at its Abort and at reset";
--- a Replay sends it. Nothing else changes what a slot holds.
+-- after its last packet a slot holds the response. "The held response is lost once a command packet is stored for the slot [..], at its Abort and
+-- at reset"; a Replay sends it. Nothing else changes what a slot holds.
 abbrev pub heldAfter : ℕ → Call → History → Held
 heldAfter i c h =
     if lastPacketOut i c h then Last (responseOf h i)
@@ -71,8 +71,8 @@ HeldMoves = Every (λ h. (c : Call) (i : ℕ) → i ≤ 1 → heldAt (step c (h 
 
 -- ---- what a Replay does
 
--- the response is sent again from its first packet on: the slot is in Transmit, none of its packets went, and the response, its requester, its tag, the slot's
--- ticket and its entries are as they were. The reply's CPSR is 1.
+-- the response is sent again from its first packet on: the slot is in Transmit, none of its packets went, and the response, its requester, its tag,
+-- the slot's ticket and its entries are as they were. The reply's CPSR is 1.
 pub record SentAgain (h : History) (i : ℕ) (p : List ℕ) : Type 0 where
   pub done : step (receive p) (h .world) .event ≡ number 2
   pub reply-is : next (receive p) h .world .endpoint .reply ≡ replyOf (bytesFrom4 p) 1

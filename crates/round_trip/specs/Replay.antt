@@ -1,5 +1,5 @@
--- A LOST RESPONSE COMES AGAIN: what a Replay sends, of document 02, from the requester's primitive to the requester's store. The proofs: `replay-same`,
--- `replay-returns` (proofs/Replay).
+-- A LOST RESPONSE COMES AGAIN: what a Replay sends, of document 02, from the requester's primitive to the requester's store. The proofs:
+-- `replay-same`, `replay-returns` (proofs/Replay).
 -- Assumes nothing.
 use Prim.Native.Nat.{ℕ, _≤_}
 use mathlib.Core.Path.{_≡_}
@@ -17,10 +17,10 @@ use Rattle.controller.specs.declared.Primitive.{Primitive}
 use Rattle.controller.specs.declared.Requester.{Requester}
 use Rattle.round_trip.specs.Response.{isUnsent, sentUntil, Returned}
 
--- THE SAME BYTES AGAIN. Any list of calls from any setup, after which slot i has a response of which no packet went; the calls `ys`, along which its last
--- packet is handed out; any calls `zs` with which no other command of the slot comes in and which leave it holding the response, replays of it among
--- them; then a Replay, and the calls `us`, along which the last packet is handed out again. What the slot hands out is then, packet by packet and byte for
--- byte, what it handed out the first time.
+-- THE SAME BYTES AGAIN. Any list of calls from any setup, after which slot i has a response of which no packet went; the calls `ys`, along which
+-- its last packet is handed out; any calls `zs` with which no other command of the slot comes in and which leave it holding the response, replays
+-- of it among them; then a Replay, and the calls `us`, along which the last packet is handed out again. What the slot hands out is then, packet by
+-- packet and byte for byte, what it handed out the first time.
 abbrev pub ReplaySame : Type 0
 ReplaySame =
     Every (λ h. (i : ℕ) → i ≤ 1 → isUnsent i h ≡ true → (ys : List Call) (d : History) → fate i ys h ≡ delivered d
@@ -35,13 +35,13 @@ replayOf i tag = record { slot = i; opcode = 4; tag = tag; cpsp = 0 }
 -- a Replay in packet p of a slot that holds its response
 pub record ComesAgain (h : History) (i : ℕ) (p : List ℕ) : Type 0 where
   pub sent-again : SentAgain h i p
-  -- where the last packet is handed out again, any requester that has the EID from which the command came and awaits the endpoint's EID and the command's
-  -- tag gathers the response
+  -- where the last packet is handed out again, any requester that has the EID from which the command came and awaits the endpoint's EID and the
+  -- command's tag gathers the response
   pub returned : (ys : List Call) (k : History) → fate i ys (next (receive p) h) ≡ delivered k → Returned i h (sentUntil i ys (next (receive p) h))
 
--- Any list of calls from any setup, after which slot i holds a response; any requester builds a Replay for the slot, under any tag, in any buffer of at
--- least 16 bytes. The endpoint answers it with CPSR 1 and sends the response again. (`primitive-answered` says how the reply comes back, `replay-arrives`
--- that the last packet is handed out.)
+-- Any list of calls from any setup, after which slot i holds a response; any requester builds a Replay for the slot, under any tag, in any buffer
+-- of at least 16 bytes. The endpoint answers it with CPSR 1 and sends the response again. (`primitive-answered` says how the reply comes back,
+-- `replay-arrives` that the last packet is handed out.)
 abbrev pub ReplayReturns : Type 0
 ReplayReturns =
     Every (λ h. (i : ℕ) → i ≤ 1 → (held : Response) → heldAt (h .world) i ≡ Last held → (r : Requester) (tag primitive-tag : ℕ) (buffer : List ℕ) → tag ≤ 7
