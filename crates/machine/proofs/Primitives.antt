@@ -2,16 +2,16 @@
 -- Assumes nothing.
 use Prim.Native.Nat.{ℕ}
 use mathlib.Core.Path.{_≡_, refl}
-use mathlib.Core.Bool.{Bool, true, false, not, _&&_}
+use mathlib.Core.Bool.{Bool, true, false, not}
 use mathlib.Core.List.{List, [], _∷_}
 use native.Mathlib.Omega.{arith}
-use lib.Dec.{eqb, ltb}
+use lib.Dec.{eqb}
 use lib.ListN.{length, length-drop}
 use borrow.Author.Tests.{eq-eqb, eqb-true, not-true}
 use Rattle.lent.specs.Bytes.{byteAt, isSet}
 use Rattle.lent.proofs.Choice.{if-second, differ}
 use Rattle.mctp.specs.Header.{payloadOf}
-use Rattle.nvme_mi.specs.Message.{messageHeader, replay-opcode, controlFault}
+use Rattle.nvme_mi.specs.Message.{messageHeader, controlFault}
 use Rattle.nvme_mi.specs.declared.MessageHeader.{MessageHeader}
 use Rattle.nvme_mi.specs.declared.Fault.the-variants.{NoFault}
 use Rattle.machine.specs.State.{World}
@@ -28,27 +28,18 @@ is-control w p c =
     let n : length p ≡ 16 = omega (arith, rw (length-drop 4 p) at (c .twelve)) in
     rw (eq-eqb (length p) 16 n, r .version, r .ours, c .som, c .eom, r .direction, c .typed, c .request, c .kind, c .right) refl
 
--- what a primitive that acts passed
-record Unfaulted (h : MessageHeader) (opcode : ℕ) (no-parameter : Bool) : Type 0 where
-  no-meb : h .meb ≡ false
-  no-ciap : h .ciap ≡ false
-  known : ltb replay-opcode opcode ≡ false
-  plain : (not no-parameter && eqb opcode replay-opcode) ≡ false
-
-unfaulted : (h : MessageHeader) (opcode : ℕ) (no-parameter : Bool) → controlFault h opcode no-parameter ≡ NoFault → Unfaulted h opcode no-parameter
+unfaulted : (h : MessageHeader) (opcode : ℕ) (no-parameter : Bool) → controlFault h opcode no-parameter ≡ NoFault → (h .meb ≡ false) × (h .ciap ≡ false)
 unfolding controlFault
 unfaulted h opcode no-parameter e =
     let a = if-second (h .meb) (λ k. differ (cc k)) e in
     let b = if-second (h .ciap) (λ k. differ (cc k)) (a .1) in
-    let c = if-second (ltb replay-opcode opcode) (λ k. differ (cc k)) (b .1) in
-    let d = if-second (not no-parameter && eqb opcode replay-opcode) (λ k. differ (cc k)) (c .1) in
-    record { no-meb = a .0; no-ciap = b .0; known = c .0; plain = d .0 }
+    (a .0, b .0)
 
 pub is-primitive : (w : World) (p : List ℕ) → Controls w p → controlFault (messageHeader (payloadOf p)) (opcodeOf (payloadOf p)) (noParameter (payloadOf p)) ≡ NoFault
     → isPrimitive (opcodeOf (payloadOf p)) (w .endpoint .eid) p ≡ true
 is-primitive w p c f =
     let u = unfaulted (messageHeader (payloadOf p)) (opcodeOf (payloadOf p)) (noParameter (payloadOf p)) f in
-    rw (is-control w p c, u .no-meb, u .no-ciap, eq-eqb (byteAt (payloadOf p) 4) (byteAt (payloadOf p) 4) refl) refl
+    rw (is-control w p c, u .0, u .1, eq-eqb (byteAt (payloadOf p) 4) (byteAt (payloadOf p) 4) refl) refl
 
 -- ---- what the bytes of a primitive that acts say
 

@@ -31,6 +31,7 @@ use Rattle.machine.specs.Receive.{refused, refusedBusy, dropped, gathers
 use Rattle.machine.specs.Poll.{otherSlot}
 use Rattle.machine.specs.Valid.{Sound, PhaseFacts}
 use Rattle.machine.specs.History.{hasSom, receivesFrom}
+use Rattle.machine.specs.Refusals.{isCommand}
 use Rattle.machine.specs.Types.{Assembly, Phase, Idle, Receive, Process, Answered, Transmit, Holder, Nowhere, At}
 use Rattle.machine.proofs.Slots.{isEarly, idle-early, facts-at, alone-at, from-same, Holds, holder-at, holder-none, ended-at, other-most}
 
@@ -131,6 +132,11 @@ module _ (w₀ : World) (packet : List ℕ) where
     opens : hasSom packet ≡ true → i ≡ byteAt message 1 % 2 → isCut unit header (length message) ≡ false → eqb (messageHeader message .nmimt) control ≡ false → Origin w i 0
     goes-on : hasSom packet ≡ false → (a : Assembly) → slotAt (w .endpoint) i .phase ≡ Receive a
         → isFrom (header .source) (header .tag) a ≡ true → joinRefusal unit store-size (a .sequence) (a .length) header (length message) ≡ 0 → Origin w i (a .length)
+
+  -- which is a command's packet
+  pub is-command : {w : World} {i n : ℕ} → Origin w i n → isCommand packet ≡ true
+  is-command (opens som _ _ kind) = rw (som, kind) refl
+  is-command (goes-on som _ _ _ _) = rw som refl
 
   -- a command's packet that is not refused before it is stored
   pub record Joining (w : World) (i at : ℕ) : Type 0 where

@@ -24,7 +24,7 @@ use Rattle.machine.specs.Numbers.{rightSizes}
 use Rattle.machine.specs.Demands.{isIdleNow}
 use Rattle.machine.specs.Refusals.{FlagColumn, assemblyEnded, placeIn, stored, isCommand, Leaves, unread, tabled, unstored, busy, unknown, broken, failed, RefusedPacket, WrongStores, RefusedCall, isOneOf, Named}
 use Rattle.machine.specs.Types.{Ticket, Taking, Untaken, Taken, Request, Phase, Idle, Receive, Process, Answered, Transmit, Endpoint, Done, TakeDone, Ready, Nothing, From}
-use Rattle.machine.proofs.Receiving.{receives-gathers, Origin, opens, goes-on, Joining, filled, Ground, in-table, of-control, of-no-slot, Busy, Gathering, Break, in-sequence, in-size, in-total, Walk, walked}
+use Rattle.machine.proofs.Receiving.{receives-gathers, is-command, Origin, opens, goes-on, Joining, filled, Ground, in-table, of-control, of-no-slot, Busy, Gathering, Break, in-sequence, in-size, in-total, Walk, walked}
 use Rattle.machine.proofs.Numbers.{wrong-sizes}
 use Rattle.machine.proofs.Keeps.{sound-endpoint, sound-of, end-valid}
 
@@ -92,17 +92,17 @@ module _ (w₀ : World) (p : List ℕ) (s₀ : Sound w₀) where
       go (in-total som) = unfold refused in (rw (a .is ∙ without som) (broken i som (here som) (g .slot-is) refl))
 
   -- a command's packet goes to its slot, at its place
-  its-slot : (w : World) (i : ℕ) {n : ℕ} → At w → Origin w₀ p w i n → (isFor i p w₀ ≡ true) × (n ≡ placeIn p (phaseAt w₀ i)) × (isCommand p ≡ true)
-  its-slot w i a (opens som e _ kind) = (rw (som, e, getD-drop 4 p 1 0) (eq-eqb (byteAt p 5 % 2) (byteAt p 5 % 2) refl), rw som refl, rw (som, kind) refl)
+  its-slot : (w : World) (i : ℕ) {n : ℕ} → At w → Origin w₀ p w i n → (isFor i p w₀ ≡ true) × (n ≡ placeIn p (phaseAt w₀ i))
+  its-slot w i a (opens som e _ _) = (rw (som, e, getD-drop 4 p 1 0) (eq-eqb (byteAt p 5 % 2) (byteAt p 5 % 2) refl), rw som refl)
   its-slot w i a (goes-on som x ph fr _) =
       let q : phaseAt w₀ i ≡ Receive x = rw (sym (without som), sym (a .is)) ph in
-      (rw (som, q) fr, rw (som, q) refl, rw som refl)
+      (rw (som, q) fr, rw (som, q) refl)
 
   fails : (w : World) (i at : ℕ) → Joining w₀ p w i at → At w → Told (refused (dropped (filled w₀ p w i at) i) 19)
   unfolding refused
   fails w i at j a _ =
       let k = its-slot w i a (j .origin) in
-      left (filled w₀ p w i at) (rw (a .is, k .1) refl) (k .0) (k .2)
+      left (filled w₀ p w i at) (rw (a .is, k .1) refl) (k .0) (is-command w₀ p (j .origin))
     where
       left : (v : World) → v ≡ stored w₀ i p → isFor i p w₀ ≡ true → isCommand p ≡ true → Leaves w₀ p 19 (refused (dropped v i) 19 .world)
       left v e mine command = unfold refused in (rw e (failed i mine (j .slot-is) command))

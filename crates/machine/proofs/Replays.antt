@@ -30,7 +30,7 @@ use Rattle.machine.specs.Replies.{csiOf, noCpsp, wrongReplay, isError, s
 use Rattle.machine.specs.Replays.{heldAt, responseOf, isStored, isReplay, heldAfter, HeldIs, HeldMoves, SentAgain, ReplaySends, ReplayArrives}
 use Rattle.machine.specs.Types.{Response, Outgoing, Held, NoResponse, Last, Phase, Idle, Receive, Process, Answered, Transmit, Slot, Endpoint}
 use Rattle.machine.proofs.Slots.{held-idle, facts-at, other-most}
-use Rattle.machine.proofs.Receiving.{Origin, opens, goes-on, Joining, filled, grown, whole, Ground, in-table, of-control, of-no-slot, Busy, Gathering, Break, in-sequence, in-size, in-total, Walk, walked, receives-gathers}
+use Rattle.machine.proofs.Receiving.{is-command, Joining, filled, grown, whole, Ground, in-table, of-control, of-no-slot, Busy, Gathering, Break, in-sequence, in-size, in-total, Walk, walked, receives-gathers}
 use Rattle.machine.proofs.Places.{Which, this, that, which, slot-this, slot-that, slot-both}
 use Rattle.machine.proofs.Touches.{Touched, alone, handed, fixed, ended as timed-out, take-touches, complete-touches, timeout-touches}
 use Rattle.machine.proofs.Fits.{Fit, Full, Going, goes, quiet-begins}
@@ -123,12 +123,8 @@ module _ (w₀ : World) (p : List ℕ) (trace : ℕ → Trace) (s₀ : Sound w�
       one-holds w on i n (g .slot-is) (idled (slotAt (w .endpoint) i)) (sym none ∙ unchanged w on i n (g .slot-is) (un i)) (un (otherSlot i))
 
   -- a command's packet that is stored: the slot that it is for holds nothing
-  is-command : {w : World} {i n : ℕ} → Origin w₀ p w i n → isCommand p ≡ true
-  is-command (opens som _ _ kind) = rw (som, kind) refl
-  is-command (goes-on som _ _ _ _) = rw som refl
-
   loses : (w : World) (i at n : ℕ) → Joining w₀ p w i at → On w → (eqb n 0 || eqb n 1 || (eqb n 19 && true)) ≡ true → heldBy n i ≡ NoResponse
-  loses w i at n j on e = rw (for-this w₀ p trace s₀ fits w i at (on .mid) j, is-command (j .origin), e) refl
+  loses w i at n j on e = rw (for-this w₀ p trace s₀ fits w i at (on .mid) j, is-command w₀ p (j .origin), e) refl
 
   other-keeps : (w : World) (i at n : ℕ) → Joining w₀ p w i at → On w → isStored (otherSlot i) p w₀ n ≡ false
   other-keeps w i at n j on = not-for (otherSlot i) n (for-that w₀ p trace s₀ fits w i at (on .mid) j)
