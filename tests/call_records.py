@@ -5,8 +5,8 @@ functions. Each function takes what is usual by default.
 """
 from records import record
 from second import calls
-from second.endpoint import BUFFER, STORE
-from second.wire import PAYLOAD
+from second.endpoint import STORE
+from units import BASE_UNIT, longest_packet, packet_count
 
 # The records that are for the requester
 REQUESTER_TAGS = range(calls.REQUESTER_SETUP, calls.REQUESTER_LOOK + 1)
@@ -17,8 +17,9 @@ def receive(packet):
 def receive_all(packets):
     return [receive(packet) for packet in packets]
 
-def setup(eid=8):
-    return record(calls.SETUP, bytes((eid,)))
+def setup(eid=8, unit=None, record_tag=calls.SETUP):
+    """Without a unit the record has the EID alone."""
+    return record(record_tag, calls.EID.pack(eid) if unit is None else calls.EID_AND_UNIT.pack(eid, unit))
 
 def stores(first=STORE, second=STORE):
     return record(calls.STORES, calls.TWO_LENGTHS.pack(first, second))
@@ -32,7 +33,7 @@ def read(slot=0):
 def complete(ticket, body, slot=0):
     return record(calls.COMPLETE, calls.TWO_NUMBERS.pack(slot, ticket) + body)
 
-def poll(length=BUFFER):
+def poll(length=longest_packet(BASE_UNIT)):
     return record(calls.POLL, calls.LENGTH.pack(length))
 
 def timeout(slot=0):
@@ -44,8 +45,8 @@ LOOK = record(calls.LOOK)
 
 # The requester
 
-def requester_setup(eid=8):
-    return record(calls.REQUESTER_SETUP, bytes((eid,)))
+def requester_setup(eid=8, unit=None):
+    return setup(eid, unit, calls.REQUESTER_SETUP)
 
 def requester_store(length=STORE):
     return record(calls.REQUESTER_STORE, calls.LENGTH.pack(length))
@@ -53,13 +54,13 @@ def requester_store(length=STORE):
 def await_from(source=9, tag=1):
     return record(calls.REQUESTER_AWAIT, bytes((source, tag)))
 
-def room(size):
+def room(size, unit=BASE_UNIT):
     """What a message of this size takes in a buffer: itself and four bytes for each packet."""
-    return size + 4 * -(-size // PAYLOAD)
+    return size + 4 * packet_count(size, unit)
 
-def cut_message(message, length=None, destination=8, tag=1):
+def cut_message(message, length=None, destination=8, tag=1, unit=BASE_UNIT):
     """The buffer has just the length that the packets take, unless another is given."""
-    length = room(len(message)) if length is None else length
+    length = room(len(message), unit) if length is None else length
     return record(calls.REQUESTER_CUT, calls.CUT.pack(destination, tag, length) + message)
 
 def primitive(opcode, slot=0, length=16, destination=8, tag=2, primitive_tag=0x5A, cpsp=0):

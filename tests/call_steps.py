@@ -1,6 +1,6 @@
 """Lines of the calls program, for the descriptions of stored scripts; put together as `steps` does it."""
-from call_records import LOOK, REQUESTER_LOOK, gather_all, poll, receive, take
-from records import record
+from call_records import LOOK, REQUESTER_LOOK, await_from, gather_all, poll, receive, take
+from records import FULL, packet, record
 from second import log
 from second.wire import crc32c
 from steps import MI_COMMAND, OTHER, response
@@ -11,6 +11,7 @@ MEMORY = 4300
 WAITING = (receive(MI_COMMAND), 1),                   # a command of slot 0 is complete, not taken
 TAKEN = *WAITING, (take(), "0 1")
 OTHER_TAKEN = (receive(OTHER), 1), (take(1), "0 1")   # the same in slot 1
+AWAITED = (await_from(), 0),                          # the requester awaits a response
 
 # What a poll prints
 NOTHING, SHORT, WRONG_STORES = "0 stays", "36 stays", "40 stays"
@@ -19,6 +20,10 @@ def polled(line):
     """A line with which a log's poll hands out a packet, as the calls program has it."""
     answer, packet = line.split()
     return f"{answer} {len(packet) // 2} {packet} stays"
+
+def polls(*lines, unit=FULL):
+    """Polls that hand out the packets of these lines of a log."""
+    return [poll(unit + 4)] * len(lines), [polled(line) for line in lines]
 
 # What a look prints
 def reply(cpsr, slot=0, to=9, tag=2):
@@ -33,30 +38,33 @@ def lent_check(front, length):
     """The check of so many bytes of a store that holds zeros behind its front."""
     return crc32c(front.ljust(MEMORY, b"\0")[:length])
 
-def looks(slot0="idle", slot1="idle", tickets=(0, 0), paused=(0, 0), busy=(0, 0), eid=8, flags=0, turn=0,
-          last=0, reply="-", store0=b"", store1=b"", lent=(4224, 4224)):
+def looks(slot0="idle", slot1="idle", tickets=(0, 0), paused=(0, 0), busy=(0, 0), eid=8, unit=FULL,
+          flags=0, turn=0, last=0, reply="-", store0=b"", store1=b"", lent=(4224, 4224)):
     """A look, and its line: that of a new endpoint but for what is given. Stores hold zeros behind the
     bytes that are given."""
     check0, check1 = (lent_check(store, length) for store, length in zip((store0, store1), lent))
-    return LOOK, (f"eid={eid} unit=64 flags={flags:04x} turn={turn} last={last} reply={reply} "
+    return LOOK, (f"eid={eid} unit={unit} flags={flags:04x} turn={turn} last={last} reply={reply} "
                   f"slot0={tickets[0]},{paused[0]},{busy[0]},{slot0} "
                   f"slot1={tickets[1]},{paused[1]},{busy[1]},{slot1} "
                   f"check0={check0:08x} check1={check1:08x}")
 
-def requester_looks(awaits="-", assembly="-", eid=8, store=b"", lent=4224):
+def requester_looks(awaits="-", assembly="-", eid=8, unit=FULL, store=b"", lent=4224):
     """The same of the requester."""
-    return REQUESTER_LOOK, (f"eid={eid} unit=64 awaits={awaits} assembly={assembly} "
+    return REQUESTER_LOOK, (f"eid={eid} unit={unit} awaits={awaits} assembly={assembly} "
                             f"check={lent_check(store, lent):08x}")
 
 # What the requester writes, and what it is given of the endpoint
+def back(payload, **fields):
+    """A packet that the requester is given: TO is 0."""
+    return packet(payload, to=0, **fields)
+
 def written(packets):
     """The line with which a command or a primitive was written: its packets, end to end."""
     data = b"".join(packet[3:] for packet in packets)
     return f"0 {len(data)} {data.hex()} stays"
 
-def carried(lines, last):
+def carried(lines, last, unit=FULL):
     """Polls that hand out the packets of these lines of a log, and the requester's gathering of them;
     `last` is what the last one is answered with."""
     packets = [record(log.PACKET, bytes.fromhex(line.split()[1])) for line in lines]
-    return (([poll()] * len(lines), [polled(line) for line in lines]),
-            (gather_all(packets), [0] * (len(packets) - 1) + [last]))
+    return polls(*lines, unit=unit), (gather_all(packets), [0] * (len(packets) - 1) + [last])

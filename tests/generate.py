@@ -14,15 +14,28 @@ import random
 
 import records
 from generate_replay import ReplayGenerator
-from reached import SIZES, LogRun
-from records import FULL
+from reached import LogRun
 from second.wire import ABORT, ADMIN, GET_STATE, MI, PAUSE, PCIE, REPLAY, RESUME
+from units import last_begins, too_long
 
 SOURCES = (9, 9, 10, 254)
-LENGTHS = (8, 12, 19, 20, 23, 24, 64, 65, 71, 72, 127, 128, 129, 192, 250)
-LONG = (4160, 4161, 4223, 4224, 4224)
-BODIES = (*SIZES[:4], 5, 20, 55, 58, 119, 120, 121, 200)
-LONG_BODIES = (4152, 4153, 4215, 4216, 4216, 4217)
+
+# Lengths of commands, and of the bodies of responses, which are eight bytes longer; some are around a
+# multiple of the unit.
+
+def lengths(unit):
+    return (8, 12, 19, 20, 23, 24, unit, unit + 1, 71, 72, 2 * unit - 1, 2 * unit, 2 * unit + 1, 3 * unit,
+            250)
+
+def long_lengths(unit):
+    return (last_begins(unit), last_begins(unit) + 1, 4223, 4224, 4224)
+
+def bodies(unit):
+    return (3, 4, unit - 8, unit - 7, 5, 20, unit - 9, unit - 6, 2 * unit - 9, 2 * unit - 8, 2 * unit - 7,
+            200)
+
+def long_bodies(unit):
+    return (*(length - 8 for length in long_lengths(unit)), 4217)
 
 class Sender:
     """A requester's message under way: the packets that are still to be sent."""
@@ -40,6 +53,16 @@ class Generator(ReplayGenerator):
         self.random = random.Random(seed)
         self.count, self.run, self.log = count, self.new_run(), []
         self.senders = []
+
+    @property
+    def unit(self):
+        """The endpoint's; a log's is always the base one."""
+        return self.run.endpoint.unit
+
+    @property
+    def three_packets(self):
+        """The length of a command of three packets, the last of two bytes."""
+        return 2 * self.unit + 2
 
     def chance(self, one_in):
         return self.random.randrange(one_in) == 0
@@ -82,7 +105,7 @@ class Generator(ReplayGenerator):
     def start(self):
         slot = self.slot("Idle") & 1
         kind = self.random.choice((MI, MI, MI, ADMIN, PCIE, MI, ADMIN, 3, 5, 15))
-        length = self.random.choice(LONG if self.chance(12) else LENGTHS)
+        length = self.random.choice((long_lengths if self.chance(12) else lengths)(self.unit))
         if self.chance(8):
             length = self.random.randrange(8, 600)
         message = records.command(length, slot, kind, fill=self.fill(kind),
@@ -90,12 +113,16 @@ class Generator(ReplayGenerator):
         if self.chance(16):
             message = records.damaged(message)
         if self.chance(40):
-            message += bytes(4288 - len(message))          # longer than a message can be
+            message += bytes(too_long(self.unit) - len(message))
         key = self.key()
-        found = records.packets(message, self.random.randrange(4), *key)
+        found = self.packets(message, self.random.randrange(4), *key)
         self.senders = [old for old in self.senders if old.key != key]
         self.senders.append(Sender(found, slot, key))
         self.advance(self.senders[-1])
+
+    def packets(self, message, first, source, tag):
+        """The message cut by the endpoint's unit."""
+        return records.packets(message, first, source, tag, unit=self.unit)
 
     def advance(self, sender):
         """Sends the next packet; long messages are mostly sent on to their end."""
@@ -150,7 +177,7 @@ class Generator(ReplayGenerator):
         if way == 0:
             self.write(records.record(1, self.random.randbytes(self.random.randrange(5))))
         elif way == 1:
-            size = self.random.choice((65, 65, 66, 200, 4296))
+            size = self.unit + self.random.choice((1, 1, 2, 136, 4232))
             self.write(records.packet(self.random.randbytes(size), **fields))
         elif way == 2:
             self.write(records.packet(payload, version=self.random.choice((0, 2, 15, 0x12)),
@@ -166,17 +193,18 @@ class Generator(ReplayGenerator):
             source, tag = self.key()
         self.write(self.stray_packet(source=source, tag=tag, slot=slot))
 
-    def stray_packet(self, ror=0, slot=None, **fields):
+    def stray_packet(self, ror=0, slot=None, unit=None, **fields):
         """A packet in the middle of nothing, or a start that is refused for its payload. `ror` is the right
-        one."""
+        one, and `unit` that of the end, if it is not the endpoint."""
         way, slot = self.random.randrange(7), self.random.randrange(2) if slot is None else slot
-        payload, marks = records.command(64, slot, ror=ror), dict(sequence=self.random.randrange(4))
+        unit = unit or self.unit
+        payload, marks = records.command(unit, slot, ror=ror), dict(sequence=self.random.randrange(4))
         if way == 0:
             marks.update(som=0, eom=self.chance(2))
         elif way == 1:
             payload = self.random.choice((b"\0", b"\x04" + payload[1:], b"\x85" + payload[1:]))
         elif way == 2:
-            payload, marks["eom"] = payload[:self.random.randrange(1, FULL)], 0
+            payload, marks["eom"] = payload[:self.random.randrange(1, unit)], 0
         elif way == 3:
             payload = payload[:self.random.randrange(1, 8)]
         elif way == 4:
@@ -211,7 +239,7 @@ class Generator(ReplayGenerator):
 
     def complete(self):
         slot = self.slot("Process taken")
-        size = self.random.choice(LONG_BODIES if self.chance(8) else BODIES)
+        size = self.random.choice((long_bodies if self.chance(8) else bodies)(self.unit))
         self.write(records.complete(self.random.randbytes(size), slot))
 
     def poll(self):
@@ -240,7 +268,7 @@ class Generator(ReplayGenerator):
         for slot in (0, 1):
             self.write(records.packet(records.command(20, slot), source=9, tag=slot),
                        records.take(slot),
-                       records.complete(self.random.randbytes(self.random.choice(BODIES)), slot))
+                       records.complete(self.random.randbytes(self.random.choice(bodies(self.unit))), slot))
             if self.chance(4):
                 self.control(PAUSE)
             if self.chance(8):
@@ -250,8 +278,8 @@ class Generator(ReplayGenerator):
         """Assemblies under way, perhaps paused, and then what may end one: a new start under the
         same source and tag, a timeout, Abort, Resume or reset."""
         for slot in self.random.choice(((0,), (1,), (0, 1), (1, 0))):
-            self.write(records.packets(records.command(130, slot, ciap=self.chance(2)),
-                                       source=9, tag=slot)[0])
+            message = records.command(self.three_packets, slot, ciap=self.chance(2))
+            self.write(self.packets(message, 0, source=9, tag=slot)[0])
         if self.chance(2):
             self.control(PAUSE)
         slot, again = self.random.randrange(2), dict(source=9, tag=self.random.randrange(2))
@@ -262,7 +290,7 @@ class Generator(ReplayGenerator):
         elif way == 1:
             self.write(records.packet(records.command(20, slot), **again))
         elif way == 2:
-            self.write(records.packets(records.command(130, slot), **again)[0])
+            self.write(self.packets(records.command(self.three_packets, slot), 0, **again)[0])
         elif way == 3:
             self.stray(**again)
         elif way == 4:

@@ -7,25 +7,26 @@ The same seed and N give the same script; about half of the scripts end with a f
 is steered as a log is, by `generate`: what that chooses is put into the records of the calls program.
 Between, calls are made with each argument right or wrong on its own, so that several faults meet in one
 call, and the states are looked at often. The requester's part, and what both ends give each other, is chosen
-by `generate_requester`.
+by `generate_requester`, and what shows the bounds of other units by `generate_units`.
 """
 import call_records
 import records
 from call_records import LOOK, REQUESTER_LOOK, REQUESTER_TAGS, RESET
-from generate import BODIES, command_line, generated
+from generate import bodies, command_line, generated
 from generate_ends import ENDPOINT, OUR_EID
-from generate_requester import RequesterGenerator
+from generate_units import UnitsGenerator
 from reached_calls import BUFFERS, LENT, CallsRun
 from runs import FAR_SLOTS, HIGH_PARTS
 from second import calls, log
 from second.calls import MEMORY
-from second.endpoint import BUFFER, STORE
+from second.endpoint import STORE
 from second.wire import ABORT
+from units import length_of, longest_packet
 
 FAR = (1 << 32) - 1
 UNKNOWN = [tag for tag in range(256) if tag not in calls.LENGTHS]
 
-class CallsGenerator(RequesterGenerator):
+class CallsGenerator(UnitsGenerator):
     """Chooses the records of a script."""
     new_run = CallsRun
     one_in_faulty = 2
@@ -36,7 +37,7 @@ class CallsGenerator(RequesterGenerator):
             super().write(record)
             if self.log[-1][0] == calls.TAKE and self.run.lines[-1].startswith("0 ") and not self.chance(3):
                 super().write(records.record(calls.READ, self.log[-1][3:]))
-            if self.chance(7):
+            if self.chance(10):
                 super().write(REQUESTER_LOOK if self.log[-1][0] in REQUESTER_TAGS else LOOK)
 
     # A log's record as the calls program's
@@ -68,8 +69,14 @@ class CallsGenerator(RequesterGenerator):
             return slot
         return self.random.choice((*FAR_SLOTS, slot, self.random.randrange(2, 1 << 32)))
 
+    @property
+    def buffers(self):
+        """The buffer that a poll needs, and others."""
+        return longest_packet(self.unit), *(length_of(name, self.unit) for name in BUFFERS)
+
     def buffer(self):
-        return self.random.choice((*BUFFERS, self.random.randrange(1 << 16))) if self.chance(6) else BUFFER
+        right, *wrong = self.buffers
+        return self.random.choice((*wrong, self.random.randrange(1 << 16))) if self.chance(6) else right
 
     def ticket(self, slot):
         """A ticket: given once, of the other slot, invented."""
@@ -108,12 +115,14 @@ class CallsGenerator(RequesterGenerator):
                 self.bring(self.slot("Idle") & 1, state)
 
     def any_poll(self):
-        self.write(call_records.poll(self.one_of(BUFFER, *BUFFERS)))
+        self.write(call_records.poll(self.one_of(*self.buffers)))
 
     def any_complete(self):
+        self.make("Process taken")
         slot = self.any_slot("Process taken", "Process untaken", "Process answered")
         ticket = self.one_of(self.endpoint.counts[slot & 1], self.ticket(slot))
-        size = self.one_of(self.random.choice(BODIES), 0, 3, 4217, self.random.choice((4216, 4300, 8184)))
+        size = self.one_of(self.random.choice(bodies(self.unit)), 0, 3, 4217,
+                           self.random.choice((4216, 4300, 8184)))
         self.write(call_records.complete(ticket, self.random.randbytes(size), slot))
 
     def any_packet(self):
@@ -133,7 +142,8 @@ class CallsGenerator(RequesterGenerator):
     def begin(self):
         """The first packet of a command of three, for a slot that is Idle if there is one."""
         slot = self.slot("Idle") & 1
-        self.write(records.packets(records.command(130, slot), self.random.randrange(4), *self.key())[0])
+        message = records.command(self.three_packets, slot)
+        self.write(self.packets(message, self.random.randrange(4), *self.key())[0])
 
     def any_call(self):
         self.random.choices((self.any_packet, self.any_take, self.any_read, self.any_complete, self.any_poll,
@@ -172,11 +182,11 @@ class CallsGenerator(RequesterGenerator):
         command = records.packet(records.command(20, slot), source=12, tag=slot)
         self.write(self.abort(slot), command, call_records.take(slot))
         ticket = self.endpoint.counts[slot]
-        self.write(RESET if self.chance(2) else call_records.setup(self.random.choice((0, 8, 9))))
+        self.write(RESET if self.chance(2) else call_records.setup(self.random.choice((0, 8, 9)), self.unit))
         for record in (None, command, call_records.take(slot)):
             if record:
                 self.write(record)
-            body = self.random.randbytes(self.random.choice(BODIES))
+            body = self.random.randbytes(self.random.choice(bodies(self.unit)))
             self.write(call_records.complete(ticket, body, slot))
 
     # What a held response outlives or is lost by, beside what a log can show
@@ -184,7 +194,8 @@ class CallsGenerator(RequesterGenerator):
         if not self.chance(3):
             super().leave(slot)
         elif self.chance(2):
-            self.write(self.random.choice((call_records.read(slot), call_records.poll(67), LOOK)))
+            short = call_records.poll(longest_packet(self.unit) - 1)
+            self.write(self.random.choice((call_records.read(slot), short, LOOK)))
         else:
             self.lend()
             self.write(self.random.choice((
@@ -208,16 +219,24 @@ class CallsGenerator(RequesterGenerator):
         above = self.random.choice((MEMORY + 1, 65535))
         return self.random.choice((
             records.record(self.random.choice(UNKNOWN), bytes(self.random.randrange(5))),
+            records.record(calls.POLL, bytes(self.random.choice((0, 1, 3)))),
             records.record(tag, bytes(least - 1 if least and self.chance(2) else greatest + 1)),
             records.record(tag, bytes(self.random.choice((8193, 65535)))),
+            *(records.record(setup, bytes((8, self.random.randrange(256)))) for setup in calls.SETUPS),
             self.random.choice((call_records.stores(above, STORE), call_records.stores(STORE, above),
                                 call_records.requester_store(above))),
             records.record(tag, bytes(least))[:self.random.randrange(1, 3)],
             records.record(calls.COMPLETE, bytes(4217))[:self.random.randrange(3, 4220)]))
 
     def step(self):
-        if not self.endpoint.stores_fit():
+        if self.multiples:
+            self.at_a_multiple()
+        elif not self.endpoint.stores_fit():
             self.lent_otherwise()
+        elif self.chance(50):
+            self.units()
+        elif self.unequal and self.chance(20):
+            self.agree()
         elif self.chance(4):
             self.requester_step()
         elif self.chance(40):

@@ -9,6 +9,7 @@ from reached_replay import WRONG_CPSP
 from runs import EIDS
 from second.endpoint import STORE
 from second.wire import GET_STATE, MI, PAUSE, PCIE, REPLAY, sealed
+from units import BASE_UNIT, UNITS, WRONG_UNITS, fitting, too_long
 
 OUR_EID = 8                     # the destination of the packets that `generate` chooses
 
@@ -36,15 +37,34 @@ class EndsGenerator(Generator):
     def eid_of(self, end):
         return OUR_EID if end is ENDPOINT else self.requester.eid
 
+    @property
+    def unequal(self):
+        """Whether the ends have different units."""
+        return self.endpoint.unit != self.requester.unit
+
+    def unit_of(self, end):
+        return (self.endpoint if end is ENDPOINT else self.requester).unit
+
     def setup(self, put=call_records.setup, usual=OUR_EID):
         """A setup in the middle, mostly with an EID at a bound."""
-        self.write(put(self.random.choice((*EIDS, usual, usual, self.random.randrange(256)))))
+        eid = self.random.choice((*EIDS, usual, usual, self.random.randrange(256)))
+        self.write(put(eid, self.any_unit()))
+
+    def any_unit(self):
+        """A unit that an end has, any other, a wrong one, or none."""
+        has = self.random.choice((self.endpoint.unit, self.requester.unit))
+        wrong = self.random.choice((*WRONG_UNITS, self.random.randrange(1 << 16)))
+        return self.random.choice((has, has, has, wrong, wrong, self.right_unit(), None))
+
+    def right_unit(self):
+        return self.random.choice((*UNITS, *UNITS, self.random.randrange(UNITS[0], UNITS[-1] + 1)))
 
     def first_packet(self, end, source, tag):
-        slot = self.random.randrange(2)
-        payload = bytearray(self.random.choice((records.command(20, slot), self.any_control(slot),
+        slot, unit = self.random.randrange(2), self.unit_of(end)
+        control = self.any_control(slot)
+        payload = bytearray(self.random.choice((records.command(20, slot), control, control,
                                                 records.control(PAUSE, tag=self.random.randrange(256)),
-                                                records.command(self.random.choice((8, 64)), slot, PCIE))))
+                                                records.command(self.random.choice((8, unit)), slot, PCIE))))
         if self.chance(6):
             payload[0] = 0x85
         if end.ror ^ self.chance(4):
@@ -52,8 +72,8 @@ class EndsGenerator(Generator):
         if end is REQUESTER and self.chance(3):             # bits that are not looked at there
             payload[1] |= self.random.randrange(8)
             payload[2:4] = self.random.randbytes(2)
-        size = self.one_of(len(payload), 0, 1, 7, 12, 13, 64, 65, 70)
-        payload = (payload[:-4] + bytes(80))[:max(size - 4, 0)]
+        size = self.one_of(len(payload), 0, 1, 7, 7, 12, 13, BASE_UNIT, unit, unit + 1, unit + 6)
+        payload = (payload[:-4] + bytes(unit + 16))[:max(size - 4, 0)]
         payload = sealed(payload)[:size]
         if self.chance(5) and payload:
             payload = records.damaged(payload)
@@ -61,30 +81,40 @@ class EndsGenerator(Generator):
 
     def any_control(self, slot):
         return records.control(self.random.choice((GET_STATE, REPLAY, REPLAY, 5, 255)), slot,
-                               cpsp=self.one_of(0, *WRONG_CPSP), ciap=self.chance(4), meb=self.chance(4))
+                               cpsp=self.random.choice((0, 0, 0, 0, *WRONG_CPSP)), ciap=self.chance(3),
+                               meb=self.chance(4))
 
     def later_packet(self, end, source, tag, sequence):
-        payload = self.random.randbytes(self.one_of(64, 0, 1, 1, 63, 63, 65))
+        unit = self.unit_of(end)
+        payload = self.random.randbytes(self.one_of(unit, 0, 1, 1, unit - 1, unit - 1, unit + 1, BASE_UNIT))
         sequence = self.one_of(sequence, sequence + self.random.randrange(1, 4))
         self.faulty_header(end, payload, 0, self.chance(2), sequence, source, tag)
 
     def faulty_header(self, end, payload, som, eom, sequence, source, tag):
-        version = 1 if not self.chance(6) else self.random.choice((0, 2, 0xF1, 0xF1, 0xF2))
+        version = 1 if not self.chance(5) else self.random.choice((0, 2, 0xF1, 0xF1, 0xF2))
         destination = self.eid_of(end) if not self.chance(6) else self.random.choice((0, 8, 9, 255))
         self.write(end.put(records.packet(payload, som, eom, sequence, source, tag, version, destination,
                                           end.to ^ self.chance(6))))
 
     def overfill(self, end, slot, source, tag, lend):
-        """66 full packets without EOM, perhaps other stores, and then what such an assembly can be told."""
-        message = records.command(STORE + 64, slot, ror=end.ror, fill=self.fill(MI))
-        full = records.packets(message, 0, source, tag, self.eid_of(end), end.to)[:66]
+        """As many full packets without EOM as fit, perhaps other stores, and then what such an assembly can
+        be told."""
+        unit = self.unit_of(end)
+        count, rest = fitting(unit), STORE % unit
+        message = records.command(too_long(unit), slot, ror=end.ror, fill=self.fill(MI))
+        full = records.packets(message, 0, source, tag, self.eid_of(end), end.to, unit)[:count]
         self.write(*map(end.put, full))
         if self.chance(4):
             lend()
+        elif not self.chance(3):
+            size, eom = self.random.choice(((rest + 1, 1), (rest + 1, 1), (rest + 1, 1), (unit, 0),
+                                            (unit - 1, 0), (unit + 1, 0)))
+            self.write(end.put(records.packet(bytes(size), 0, eom, count, source, tag,
+                                              destination=self.eid_of(end), to=end.to)))
         for _ in range(16):
             if not self.gathers(end, source, tag):
                 return
-            self.later_packet(end, source, tag, 66)
+            self.later_packet(end, source, tag, count)
 
     def gathers(self, end, source, tag):
         """Whether the end has an assembly of this source and tag."""

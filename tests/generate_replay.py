@@ -4,10 +4,14 @@ import records
 from reached_replay import WRONG_CPSP
 from runs import STATES
 from second.wire import ABORT, GET_STATE, PAUSE, REPLAY, RESUME
+from units import too_long
 
-BODIES = (4, 56, 57, 120, 121, 184, 200, 248)                   # responses of one to four packets
 WRONG = (dict(meb=1), dict(ciap=1), dict(meb=1, ciap=1))
 AT_ONCE = (dict(kind=3), dict(meb=1), dict(length=19))          # of a command that is answered at once
+
+def bodies(unit):
+    """Of responses of one to four packets."""
+    return 4, unit - 8, unit - 7, 2 * unit - 8, 2 * unit - 7, 3 * unit - 8, 200, 4 * unit - 8
 
 class ReplayGenerator:
     """A part of `generate.Generator`."""
@@ -36,8 +40,9 @@ class ReplayGenerator:
     def bring(self, slot, state):
         """Brings a slot to a state but Idle; its response may be begun, and the slot may be paused."""
         self.clear(slot)
-        message = records.command(130 if state == "Receive" else 20, slot, ciap=state == "Process answered")
-        self.write(records.packets(message, 0, *self.key())[0])
+        message = records.command(self.three_packets if state == "Receive" else 20, slot,
+                                  ciap=state == "Process answered")
+        self.write(self.packets(message, 0, *self.key())[0])
         if state in STATES[3:]:
             self.write(records.take(slot))
         if state in STATES[4:]:
@@ -48,7 +53,7 @@ class ReplayGenerator:
             self.control(PAUSE)
 
     def body(self):
-        return self.random.randbytes(self.random.choice(BODIES))
+        return self.random.randbytes(self.random.choice(bodies(self.unit)))
 
     def hold(self, slot):
         """Lets the slot send a response whole, unless it holds one."""
@@ -130,8 +135,8 @@ class ReplayGenerator:
     def command_packet(self, slot):
         """A command of one packet, right or wrong, or the first packet of one of several."""
         way = self.random.randrange(4)
-        message = records.command(130 if way == 0 else 20, slot, ciap=self.chance(4))
-        return records.packets(records.damaged(message) if way == 1 else message, 0, *self.key())[0]
+        message = records.command(self.three_packets if way == 0 else 20, slot, ciap=self.chance(4))
+        return self.packets(records.damaged(message) if way == 1 else message, 0, *self.key())[0]
 
     # What a response is lost by
 
@@ -157,13 +162,13 @@ class ReplayGenerator:
     def lose_to_an_assembly(self, slot):
         """The first packet of a command that is too long, and mostly what ends its assembly."""
         source, tag = key = self.key()
-        first, *rest = records.packets(records.command(4288, slot), 0, *key)
+        first, *rest = self.packets(records.command(too_long(self.unit), slot), 0, *key)
         fields = dict(som=0, source=source, tag=tag)
         self.write(first)
         self.random.choices((
             lambda: self.write(records.timeout(slot)),
             lambda: self.write(records.packet(bytes(36), sequence=2, **fields)),                # 22
-            lambda: self.write(records.packet(bytes(63), eom=0, sequence=1, **fields)),         # 16
+            lambda: self.write(records.packet(bytes(self.unit - 1), eom=0, sequence=1, **fields)),  # 16
             lambda: self.write(records.packet(bytes(36), sequence=1, **fields)),                # 19
             lambda: self.write(*rest),                                                          # 23
             lambda: self.stray(source, tag), lambda: self.control(ABORT, slot), self.forget, lambda: None),

@@ -10,11 +10,13 @@ from second import calls, log
 from second.calls import MEMORY
 from second.endpoint import STORE
 from second.wire import ADMIN, MI, PCIE, REPLAY, packet_fields
+from units import AROUND, UNITS, length_of, most_packets
 
 USUAL_EID = 9                   # of the requester; most commands of `generate` come from there too
 KINDS = (MI, MI, ADMIN, PCIE, 3)
-COMMANDS = (8, 19, 20, 64, 65, 100, 128)
-BODIES = (4, 56, 57, 92, 120)
+COMMANDS = (8, 19, 20, 100)
+BODIES = (4, 92)
+MOST = most_packets(min(UNITS))                 # packets that are kept
 WRONG_TAGS = [tag for tag, answer in TAGS.items() if answer]
 
 def key_of(packet):
@@ -38,23 +40,33 @@ class RequesterGenerator(EndsGenerator):
         if tag == calls.POLL and line.startswith("1 "):
             packet = written_by(line)
             if packet_fields(packet).destination == self.requester.eid:
-                self.coming = [*self.coming[-65:], records.record(log.PACKET, packet)]
+                self.coming = [*self.coming, records.record(log.PACKET, packet)][-MOST:]
         elif tag in (calls.REQUESTER_CUT, calls.REQUESTER_PRIMITIVE) and line.startswith("0 "):
-            self.outgoing = [records.record(log.PACKET, packet) for packet in packets_in(line)]
+            packets = packets_in(line, self.requester.unit)
+            self.outgoing = [records.record(log.PACKET, packet) for packet in packets]
 
     # Exchanges
 
-    def exchange(self):
-        """A command, from its cutting to its response; now and then of 66 packets both ways. The response may
-        be lost, and asked for again."""
+    def around(self, unit):
+        """A length around a multiple of the unit, mostly of few packets."""
+        many = self.random.randrange(1, most_packets(unit))
+        count = self.random.choice((1, 2, 2, 2, 3, 3, 4)) if not self.chance(9) else many
+        return count * unit + self.random.choice(tuple(AROUND))
+
+    def exchange(self, long=None):
+        """A command, from its cutting to its response; now and then of the most packets both ways. The
+        response may be lost, and asked for again."""
         slot, tag, eid = self.random.randrange(2), self.random.randrange(8), self.endpoint.eid
-        long = self.chance(14)
+        long = self.chance(14) if long is None else long
         self.clear(slot)
-        self.write(await_from(eid, tag), cut_message(self.command(slot, long), destination=eid, tag=tag))
+        self.write(await_from(eid, tag), cut_message(self.command(slot, long), destination=eid, tag=tag,
+                                                     unit=self.requester.unit))
         self.travel(ENDPOINT, self.outgoing)
         if self.endpoint.state(slot) == "Process untaken":
-            body = self.random.randbytes(STORE - 8 if long else self.random.choice(BODIES))
-            self.write(call_records.take(slot), call_records.complete(self.endpoint.counts[slot], body, slot))
+            sizes = (*BODIES, self.unit - 8, *[self.around(self.unit) - 8] * 3)
+            size = STORE - 8 if long else self.random.choice(sizes)
+            self.write(call_records.take(slot), call_records.complete(
+                self.endpoint.counts[slot], self.random.randbytes(size), slot))
         self.fetch(lambda: self.sends(slot), *[tag] * self.random.randrange(2))     # or nothing is gathered
         for _ in range(1 if long else self.random.randrange(3)):
             if self.endpoint.held(slot):
@@ -71,7 +83,9 @@ class RequesterGenerator(EndsGenerator):
         self.fetch(lambda: self.endpoint.reply or self.sends(slot), asked, tag)
 
     def command(self, slot, long):
-        kind, size = (MI, STORE) if long else (self.random.choice(KINDS), self.random.choice(COMMANDS))
+        unit = self.requester.unit
+        sizes = (*COMMANDS, unit, *[self.around(unit)] * (1 if self.unequal else 4))
+        kind, size = (MI, STORE) if long else (self.random.choice(KINDS), self.random.choice(sizes))
         found = records.command(size, slot, kind, fill=self.fill(kind), meb=self.chance(12))
         return records.damaged(found) if self.chance(20) else found
 
@@ -108,6 +122,8 @@ class RequesterGenerator(EndsGenerator):
         between = self.chance(4)
         for packet in packets:
             self.write(end.put(packet))
+            if self.unequal and not self.chance(4):
+                return                              # the rest can't be gathered
             if between and self.chance(1 + len(packets) // 4):
                 self.random.choice((self.other, self.any_requester_call, self.any_cut, self.other_packet))()
 
@@ -137,14 +153,18 @@ class RequesterGenerator(EndsGenerator):
                 self.one_of(self.random.randrange(8), 0, 7, *WRONG_TAGS, *WRONG_TAGS))
 
     def any_cut(self):
-        size = self.one_of(self.random.choice(COMMANDS), *SIZES)
-        length = self.one_of(room(size), 0, max(room(size) - 1, 0), room(size) + 1, 65535)
+        unit = self.requester.unit
+        size = length_of(self.one_of(self.random.choice((*COMMANDS, "U", "U + 1", "2 U")), *SIZES), unit)
+        exact = room(size, unit)
+        length = self.one_of(exact, 0, max(exact - 1, 0), exact + 1, 65535)
         self.write(cut_message(self.random.randbytes(size), length, *self.destination_and_tag()))
 
     def bounded_cut(self):
         """A buffer that is one byte too short, just right or one byte too long."""
-        size = self.random.choice(EXACT)
-        self.write(cut_message(self.random.randbytes(size), room(size) + self.random.choice((-1, 0, 1))))
+        unit = self.requester.unit
+        size = length_of(self.random.choice((*EXACT, STORE, *[self.around(unit)] * 4)), unit)
+        length = room(size, unit) + self.random.choice((-1, -1, 0, 0, 1))
+        self.write(cut_message(self.random.randbytes(size), length))
 
     def any_primitive(self):
         slot, length = self.one_of(self.random.randrange(2), *SLOTS), self.one_of(room(12), *BUFFERS)
@@ -178,9 +198,9 @@ class RequesterGenerator(EndsGenerator):
 
     def begin_response(self):
         """Gives the requester the first of three packets of a response that is awaited; the other two."""
-        source, tag = self.awaited()
-        first, *rest = records.packets(records.command(130, ror=1, fill=self.fill(MI)),
-                                       self.random.randrange(4), source, tag, self.requester.eid, to=0)
+        (source, tag), unit = self.awaited(), self.requester.unit
+        first, *rest = records.packets(records.command(2 * unit + 2, ror=1, fill=self.fill(MI)),
+                                       self.random.randrange(4), source, tag, self.requester.eid, 0, unit)
         self.write(gather(first))
         return rest
 
@@ -212,7 +232,7 @@ class RequesterGenerator(EndsGenerator):
         elif self.chance(8):
             self.write(gather(records.packet(records.damaged(records.command(ror=1)), **fields)))
         else:
-            self.write(gather(self.stray_packet(1, **fields)))
+            self.write(gather(self.stray_packet(1, unit=self.requester.unit, **fields)))
 
     def lend_between(self):
         self.requester_lend()

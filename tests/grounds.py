@@ -7,8 +7,9 @@ order: the first is the one to be answered. BEHIND says which can hold behind a 
 from call_records import room
 from second.endpoint import STORE, Idle, Process, Receive, requester
 from second.requester import GREATEST_TAG, SHORTEST_MESSAGE
-from second.wire import (CONTROL, LONGEST_MESSAGE, LONGEST_PACKET, PAYLOAD, REPLAY, control_request,
-                         is_sealed, message_header, packet_fields)
+from second.wire import (CONTROL, LONGEST_MESSAGE, REPLAY, control_request, is_sealed, message_header,
+                         packet_fields)
+from units import longest_packet
 
 STORES = "40"
 LATER = ("21", "22", "16 later", "23", "19 whole")
@@ -39,7 +40,7 @@ class EndpointEnd:
 
     def __init__(self, endpoint, memory):
         self.endpoint, self.memory = endpoint, memory
-        self.eid, self.stores_fit = endpoint.eid, endpoint.stores_fit()
+        self.eid, self.unit, self.stores_fit = endpoint.eid, endpoint.unit, endpoint.stores_fit()
 
     def refuses(self, header, who):
         """Whether the slot is still not Idle after an assembly of this requester ended."""
@@ -61,7 +62,7 @@ class RequesterEnd:
 
     def __init__(self, requester, memory):
         self.requester, self.memory = requester, memory
-        self.eid, self.stores_fit = requester.eid, len(requester.store) == STORE
+        self.eid, self.unit, self.stores_fit = requester.eid, requester.unit, len(requester.store) == STORE
 
     def refuses(self, _header, who):
         """ "20 then means source and tag not awaited" """
@@ -73,7 +74,10 @@ class RequesterEnd:
             return None
         return assembly.sequence, bytes(self.memory[:assembly.length])
 
+SETUP_BEHIND = {"38": ("39",), "39": ()}
+
 BEHIND = {
+    "setup": SETUP_BEHIND,
     "receive": packet_behind(EndpointEnd.control, EndpointEnd.other),
     "control": {"MEB": ("CIAP", "opcode", "CPSP"), "CIAP": ("opcode", "CPSP"), "opcode": (), "CPSP": ()},
     "take": {"30": (), "31": ("33",), "33": ()},
@@ -83,6 +87,7 @@ BEHIND = {
     "poll": {STORES: ("36",), "36": ()},
     "timeout": {"30": (), "37 not in Receive": ("37 flag",), "37 flag": ()},
     "read": {"slot": ("stores",), "stores": ("nothing taken",), "nothing taken": ()},
+    "requester setup": SETUP_BEHIND,
     "gather": packet_behind(RequesterEnd.control, RequesterEnd.other),
     "await": {"41 tag": ()},
     "cut": {"41 size": ("41 tag", "36"), "41 tag": ("36",), "36": ()},
@@ -98,7 +103,10 @@ def holding(*grounds):
     """The grounds whose test is true, of (ground, test)."""
     return [ground for ground, holds in grounds if holds]
 
-# Receiving, at either end
+# Setup and receiving, at either end
+
+def setup_grounds(eid, unit):
+    return holding(("38", not 8 <= eid <= 254), ("39", not 64 <= unit <= 250))
 
 def receive_grounds(endpoint, memory, packet):
     return packet_grounds(EndpointEnd(endpoint, memory), packet)
@@ -108,7 +116,7 @@ def gather_grounds(requester, memory, packet):
 
 def packet_grounds(end, packet):
     found = holding((STORES, not end.stores_fit), ("10", len(packet) < 5),
-                    ("11", len(packet) > LONGEST_PACKET))
+                    ("11", len(packet) > longest_packet(end.unit)))
     if len(packet) < 4:
         return found
     fields, payload = packet_fields(packet), packet[4:]
@@ -118,7 +126,7 @@ def packet_grounds(end, packet):
 
 def first_grounds(end, fields, payload):
     found = holding(("15 type", payload and payload[0] != 0x84),
-                    ("16 first", not fields.eom and len(payload) != PAYLOAD),
+                    ("16 first", not fields.eom and len(payload) != end.unit),
                     ("17", fields.eom and len(payload) < 8))
     if len(payload) < 3:
         return found
@@ -134,7 +142,7 @@ def first_grounds(end, fields, payload):
 
 def later_grounds(end, fields, payload):
     assembly = end.assembly(requester(fields))
-    cut = not fields.eom and len(payload) != PAYLOAD
+    cut = not fields.eom and len(payload) != end.unit
     if assembly is None:
         return holding(("21", True), ("16 later", cut))
     sequence, gathered = assembly
@@ -178,7 +186,7 @@ def complete_grounds(endpoint, was_taken, slot, ticket, body):
                            ("34", not was_taken[slot] and not isinstance(job, (Idle, Receive))), size)
 
 def poll_grounds(endpoint, length):
-    return holding((STORES, not endpoint.stores_fit()), ("36", length < LONGEST_PACKET))
+    return holding((STORES, not endpoint.stores_fit()), ("36", length < longest_packet(endpoint.unit)))
 
 def timeout_grounds(endpoint, slot):
     if slot > 1:
@@ -196,9 +204,9 @@ def read_grounds(endpoint, slot):
 def await_grounds(tag):
     return holding(("41 tag", tag > GREATEST_TAG))
 
-def cut_grounds(tag, size, length):
+def cut_grounds(unit, tag, size, length):
     return holding(("41 size", not SHORTEST_MESSAGE <= size <= LONGEST_MESSAGE),
-                   ("41 tag", tag > GREATEST_TAG), ("36", length < room(size)))
+                   ("41 tag", tag > GREATEST_TAG), ("36", length < room(size, unit)))
 
 def primitive_grounds(tag, slot, length):
     return holding(("41 tag", tag > GREATEST_TAG), ("30", slot > 1), ("36", length < PRIMITIVE_PACKET))

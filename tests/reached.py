@@ -1,8 +1,8 @@
 """What logs reach.
 
 GOALS is every line that a right set of logs has to reach; what a log can never show is left out: 34 (the
-ticket last taken is never that of an untaken command, short of 2^32 commands), 36, 38 and 40 (buffer, EID
-and stores are the log program's own).
+ticket last taken is never that of an untaken command, short of 2^32 commands), 36, 38, 39 and 40 (buffer,
+EID, unit and stores are the log program's own).
 """
 import reached_replay
 import runs
@@ -11,8 +11,9 @@ from reached_replay import Replays
 from runs import ENTRY_GROUNDS, PRIMITIVES, STATES, Run, entry_ground, has_begun, in_transmit, is_paused
 from second.endpoint import STORE, Process
 from second.log import COMPLETE, LENGTHS, PACKET, POLL, RESET, TAKE, TIMEOUT, Log, records
-from second.wire import (ABORT, CRC_TABLE, GET_STATE, PAUSE, PAYLOAD, RESUME, control_request, message_header,
+from second.wire import (ABORT, CRC_TABLE, GET_STATE, PAUSE, RESUME, control_request, message_header,
                          packet_fields)
+from units import BASE_UNIT
 
 ANSWERS = {"receive": (0, 1, 2, *range(10, 24)), "poll": (0, 1), "timeout": (0, 30, 37),
            "take": (0, 30, 31, 33), "complete": (0, 30, 31, 32, 35), "reset": (0,)}
@@ -168,7 +169,7 @@ class LogRun(Run):
         slot, other = header.csi, 1 - header.csi
         job = self.endpoint.jobs[slot]
         if isinstance(job, Process):
-            self.note(f"slot {slot}: 66-packet request received", job.length > STORE - PAYLOAD)
+            self.note(f"slot {slot}: 66-packet request received", job.length > STORE - BASE_UNIT)
             self.checked("a request", slot, job.length - 4)
         else:                             # answered at once: the response tells the ground
             ground = entry_ground(self.endpoint.stores[slot])
@@ -176,10 +177,10 @@ class LogRun(Run):
         self.note(f"slot {other}: CIAP of the other slot's command in {before.state(other)}", header.ciap)
 
     def checked(self, message, slot, length):
-        """The check of so many bytes of the slot's store was computed. Only long messages are looked at: a short one
-        has fewer bytes than the table has entries, and looking takes as long as the check."""
+        """The check of so many bytes of the slot's store was computed. Only long messages are looked at: a
+        short one has fewer bytes than the table has entries, and looking takes as long as the check."""
         goal = ALL_ENTRIES.format(message)
-        if length > STORE - PAYLOAD - 4 and goal not in self.reached:
+        if length > STORE - BASE_UNIT - 4 and goal not in self.reached:
             self.note(goal, len(entries_of(self.endpoint.stores[slot][:length])) == 256)
 
     # Control primitives

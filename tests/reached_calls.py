@@ -1,34 +1,39 @@
 """What scripts for the calls program reach.
 
-GOALS is every line that a right set of scripts has to reach, those of `reached_requester` and of
-`reached_replay` too. The most of it are pairs: each two grounds on which a call can refuse at the same time,
+GOALS is every line that a right set of scripts has to reach, those of `reached_requester`, `reached_replay`
+and `reached_units` too. Many of them are pairs: each two grounds on which a call can refuse at the same time,
 of which the earlier one has to be answered.
 """
 import reached_replay
 import reached_requester
+import reached_units
 import runs
 from exchanges import written_by
 from grounds import (BEHIND, complete_grounds, control_answer, control_grounds, ground_goals, poll_grounds,
-                     read_grounds, receive_grounds, take_grounds, timeout_grounds)
+                     read_grounds, receive_grounds, setup_grounds, take_grounds, timeout_grounds)
 from reached_replay import Replays
 from reached_requester import RequesterRun
+from reached_units import Units
 from runs import EIDS, FAR_SLOTS, HIGH_PARTS, STATES, answer_of, is_paused, packet_kind
 from second.calls import (COMPLETE, LENGTH, LENGTHS, LONGEST_BODY, LOOK, MEMORY, NUMBER, POLL, READ, RECEIVE,
-                          RESET, SETUP, STORES, TAKE, TIMEOUT, TWO_LENGTHS, TWO_NUMBERS, records)
+                          REQUESTER_SETUP, RESET, SETUP, STORES, TAKE, TIMEOUT, TWO_LENGTHS, TWO_NUMBERS,
+                          records, setup_arguments)
 from second.endpoint import STORE
+from units import length_of
 
 ANSWERS = {"receive": (0, 1, 2, *range(10, 24), 40), "take": (0, 30, 31, 33), "poll": (0, 1, 36, 40),
-           "complete": (0, 30, 31, 32, 34, 35, 40), "timeout": (0, 30, 37), "setup": (0, 38), "reset": (0,),
-           "stores": (0,)}
+           "complete": (0, 30, 31, 32, 34, 35, 40), "timeout": (0, 30, 37), "setup": (0, 38, 39),
+           "reset": (0,), "stores": (0,)}
 SLOT_CALLS = ("take", "read", "complete", "timeout")
-BUFFERS = (0, 67, 68, 69, 65535)
+BUFFERS = (0, "U + 3", "U + 4", "U + 5", 65535)
 LENT = ((STORE - 1, STORE), (STORE, STORE - 1), (STORE + 1, STORE), (STORE, STORE + 1), (0, 0),
         (MEMORY, MEMORY), (0, STORE))
 WHICH = {(False, True): "store 0", (True, False): "store 1", (False, False): "both stores"}
 FLAG_BITS = (*range(4, 13), 14)
 TO_SEND = ("nothing", "a control reply", "a command packet")
+HALF_A_UNIT = {SETUP: "half a unit in a setup", REQUESTER_SETUP: "half a unit in the requester's setup"}
 FAULTS = ("an unknown tag", "a wrong length", "a body over 8,192", "a store above 4,300", "a cut head",
-          "a cut body")
+          "a cut body", *HALF_A_UNIT.values())
 
 # The goals
 
@@ -53,11 +58,11 @@ def argument_goals():
         yield from (f"{call} with {which} of another length"
                     for call in ("receive", "complete", "poll", "read"))
     yield from (f"{call} with stores of another length"
-                for call in ("take 0", "timeout 0", "reset 0", "setup 0", "setup 38"))
+                for call in ("take 0", "timeout 0", "reset 0", "setup 0", "setup 38", "setup 39"))
     yield "a packet for EID 8 while ours is another"
 
 def state_goals(slot, state):
-    yield from (f"slot {slot}: setup {answer} in {state}" for answer in (0, 38))
+    yield from (f"slot {slot}: setup {answer} in {state}" for answer in ANSWERS["setup"])
     yield f"slot {slot}: reset in {state}"
     yield f"slot {slot}: another ticket in {state}"
     yield f"slot {slot}: the present ticket in {state}"
@@ -91,7 +96,7 @@ def call_goals():
     yield from (f"bad for {fault}" for fault in FAULTS)
 
 GOALS = (*call_goals(), *refusal_goals(), *argument_goals(), *slot_goals(0), *slot_goals(1), *look_goals(),
-         *reached_requester.GOALS, *reached_replay.SCRIPT_GOALS)
+         *reached_requester.GOALS, *reached_replay.SCRIPT_GOALS, *reached_units.GOALS)
 
 # What a script reaches
 
@@ -103,7 +108,7 @@ class CallsRun(RequesterRun):
             SETUP: self.was_set_up, STORES: self.were_lent, RECEIVE: self.received, TAKE: self.taken,
             READ: self.was_read, COMPLETE: self.completed, POLL: self.polled, TIMEOUT: self.timed_out,
             RESET: self.was_reset, LOOK: self.looked})
-        self.replays = Replays(self)
+        self.replays, self.units = Replays(self), Units(self)
         self.was_taken = [False, False]         # whether the slot's last command was taken
         self.given = [set(), set()]             # tickets given since the last reset or setup
         self.over_reset, self.over_setup = [set(), set()], [set(), set()]
@@ -120,6 +125,10 @@ class CallsRun(RequesterRun):
             elif not self.endpoint.stores_fit():
                 self.lent_otherwise[slot] = True
 
+    def noted(self, tag, before, body, line):
+        super().noted(tag, before, body, line)
+        self.units.noted(tag, before, body, line)
+
     def fault_of(self, rest):
         """Why the first record of these bytes prints `bad`."""
         if len(rest) < 3:
@@ -132,7 +141,7 @@ class CallsRun(RequesterRun):
         least, greatest = LENGTHS[rest[0]]
         if not least <= length <= greatest:
             return "a wrong length"
-        return "a cut body" if len(rest) < 3 + length else "a store above 4,300"
+        return "a cut body" if len(rest) < 3 + length else HALF_A_UNIT.get(rest[0], "a store above 4,300")
 
     # Notes that several calls share
 
@@ -156,6 +165,7 @@ class CallsRun(RequesterRun):
 
     def was_set_up(self, before, body, line):
         self.note(f"setup answers {line}")
+        self.answered("setup", setup_grounds(*setup_arguments(body)), line)
         self.note(f"setup with EID {body[0]} answers {line}")
         self.without_stores("setup", line, before)
         self.replays.called(before, "setup")
@@ -245,10 +255,11 @@ class CallsRun(RequesterRun):
         self.answered("poll", poll_grounds(before, length), answer)
         self.stored("poll", before, answer == "40")
         ready = before.ready()
-        if answer != "40":
-            self.note(f"poll with {length} bytes, nothing to send", before.reply is None and ready is None)
-            self.note(f"poll with {length} bytes, a control reply to send", before.reply is not None)
-            self.note(f"poll with {length} bytes, a command packet to send", ready is not None)
+        for name in BUFFERS:
+            if answer != "40" and length == length_of(name, before.unit):
+                self.note(f"poll with {name} bytes, nothing to send", before.reply is None and ready is None)
+                self.note(f"poll with {name} bytes, a control reply to send", before.reply is not None)
+                self.note(f"poll with {name} bytes, a command packet to send", ready is not None)
         if answer == "1" and self.endpoint.reply is before.reply:
             self.note(f"slot {ready}: a packet sent after other lengths were lent",
                       self.lent_otherwise[ready])

@@ -6,8 +6,8 @@ reach too, and what logs can't show. A replay has to be the packets that were se
 run ends with an error.
 """
 from grounds import control_answer
-from runs import (COUNTS, ENTRY_GROUNDS, PRIMITIVES, STATES, entry_ground, has_begun, in_transmit, is_paused,
-                  picture)
+from runs import (COUNTS, ENTRY_GROUNDS, PRIMITIVES, SCRIPT_COUNTS, STATES, counted, entry_ground, has_begun,
+                  in_transmit, is_paused, picture)
 from second.endpoint import Idle, Process, requester
 from second.wire import CONTROL, REPLAY, control_request, message_header, packet_fields
 
@@ -70,7 +70,7 @@ def script_goals(slot):
     yield from (f"slot {slot}: nothing to replay after {what}" for what in LOST_IN_SCRIPTS)
     yield from (f"slot {slot}: replayed after {what}" for what in KEPT_IN_SCRIPTS)
     yield from (f"slot {slot}: replayed while the other is in {state}" for state in STATES)
-    yield from (f"slot {slot}: a replay of {count} packets sent" for count in COUNTS)
+    yield from (f"slot {slot}: a replay of {count} packets sent" for count in SCRIPT_COUNTS)
     yield f"slot {slot}: a replay of a replay sent"
     yield f"slot {slot}: a command taken after a replay"
 
@@ -282,7 +282,8 @@ class Replays:
             return
         if response.packets != response.first:
             raise ValueError(f"slot {slot} does not send again what it sent first")
-        self.note(slot, f"a replay of {len(response.packets)} packets sent")
+        for count in (len(response.packets), counted(response.packets, self.run.endpoint.unit)):
+            self.note(slot, f"a replay of {count} packets sent")
         self.note(slot, f"an error of entry sent again, {response.error}", response.error)
         self.note(slot, "a replay of a replay sent", response.times > 1)
         for state in response.states:

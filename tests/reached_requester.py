@@ -7,27 +7,29 @@ import copy
 
 from call_records import REQUESTER_TAGS, room
 from exchanges import OPCODES, Exchanges, exchange_goals
-from grounds import HEADER, STORES, await_grounds, cut_grounds, gather_grounds, primitive_grounds
+from grounds import (HEADER, STORES, await_grounds, cut_grounds, gather_grounds, primitive_grounds,
+                     setup_grounds)
 from runs import EIDS, FAR_SLOTS, HIGH_PARTS, Run, answer_of, packet_kind
 from second.calls import (CUT, LENGTH, MEMORY, PRIMITIVE, REQUESTER_AWAIT, REQUESTER_CUT, REQUESTER_LOOK,
                           REQUESTER_PRIMITIVE, REQUESTER_RECEIVE, REQUESTER_SETUP, REQUESTER_STORE, RESET,
-                          SETUP, Calls, RequesterCalls)
+                          SETUP, Calls, RequesterCalls, setup_arguments)
 from second.endpoint import STORE
 from second.wire import packet_fields
+from units import length_of
 
 ANSWERS = {"gather": (0, 1, 2, *range(10, 24), 40), "await": (0, 41), "cut": (0, 36, 41),
-           "primitive": (0, 30, 36, 41), "requester setup": (0, 38), "requester store": (0,)}
+           "primitive": (0, 30, 36, 41), "requester setup": (0, 38, 39), "requester store": (0,)}
 IDLE, AWAITED, GATHERING = STATES = ("nothing awaited", "awaited", "gathering")
 
 TAGS = {0: 0, 7: 0, 8: 41, 255: 41}
 SLOTS = {0: 0, 1: 0, **{slot: 30 for slot in FAR_SLOTS},
          **{part + slot: 30 for part in HIGH_PARTS for slot in (0, 1)}}
-SIZES = {0: 41, 7: 41, 8: 0, 63: 0, 64: 0, 65: 0, 128: 0, 4160: 0, 4161: 0, 4223: 0, 4224: 0, 4225: 41,
-         8188: 41}
-EXACT = (8, 64, 65, 128, 4224)                  # sizes whose buffers are a byte too short, right or too long
+SIZES = {0: 41, 7: 41, 8: 0, "U - 1": 0, "U": 0, "U + 1": 0, "2 U": 0, "all but the last packet's": 0,
+         "one of the last packet's": 0, 4223: 0, 4224: 0, 4225: 41, 8188: 41}
+EXACT = (8, "U", "U + 1", "2 U", 4224)          # sizes whose buffers are a byte too short, right or too long
 BUFFERS = {0: 36, 15: 36, 16: 0, 17: 0, 65535: 0}               # of a primitive
 LENT = (0, STORE - 1, STORE + 1, MEMORY)
-RESPONSES = (8, 12, 64, 65, 128, 4224)          # sizes
+RESPONSES = (8, 12, "U", "U + 1", "2 U", 4224)  # sizes
 
 # What is not compared: of a message that was gathered, whether it is not as usual
 IGNORED = {"CSI 1": lambda message: message[1] & 1, "MEB 1": lambda message: message[2] & 1,
@@ -89,7 +91,8 @@ def store_goals():
     yield from (f"requester store of {length} lent" for length in (*LENT, STORE))
     yield from (f"gather: 40 with a store of {length}" for length in LENT)
     yield from (f"{call} with a store of another length"
-                for call in ("requester setup 0", "requester setup 38", "await 0", "cut 0", "primitive 0"))
+                for call in ("requester setup 0", "requester setup 38", "requester setup 39", "await 0",
+                             "cut 0", "primitive 0"))
     yield "look: the requester's store of another length"
     yield from (f"look: requester, {state}" for state in STATES)
 
@@ -148,6 +151,7 @@ class RequesterRun(Run):
 
     def requester_set_up(self, before, body, line):
         self.called("requester setup", before, line)
+        self.answered("requester setup", setup_grounds(*setup_arguments(body)), line)
         self.note(f"requester setup with EID {body[0]} answers {line}")
         self.ended_by = None
 
@@ -177,14 +181,15 @@ class RequesterRun(Run):
         destination, tag, length = CUT.unpack(data[:CUT.size])
         size, answer = len(data) - CUT.size, answer_of(line)
         self.called("cut", before, answer)
-        self.answered("cut", cut_grounds(tag, size, length), answer)
+        self.answered("cut", cut_grounds(before.unit, tag, size, length), answer)
         self.note(f"cut with tag {tag} answers {answer}")
-        self.note(f"cut of {size} bytes answers {answer}")
-        spare = length - room(size)
-        self.note(f"cut of {size} bytes, 1 too few in the buffer", answer == "36" and spare == -1)
-        if answer == "0":
-            self.note(f"cut of {size} bytes, {spare} to spare in the buffer")
-            self.note(f"cut with EID {destination}")
+        self.note(f"cut with EID {destination}", answer == "0")
+        spare = length - room(size, before.unit)
+        for name in SIZES:
+            if size == length_of(name, before.unit):
+                self.note(f"cut of {name} bytes answers {answer}")
+                self.note(f"cut of {name} bytes, 1 too few in the buffer", answer == "36" and spare == -1)
+                self.note(f"cut of {name} bytes, {spare} to spare in the buffer", answer == "0")
 
     def was_built(self, before, data, line):
         destination, tag, slot, opcode, _, _, length = PRIMITIVE.unpack(data)
@@ -239,7 +244,9 @@ class RequesterRun(Run):
             self.ended_by = what
 
     def came_whole(self, answer, packet, message):
-        self.note(f"a response of {len(message)} bytes gathered", answer == "1")
+        for name in RESPONSES:
+            self.note(f"a response of {name} bytes gathered",
+                      answer == "1" and len(message) == length_of(name, self.requester.unit))
         self.note(f"gather answers {answer} to a version's high bits", packet[0] > 15)
         for ignored, is_odd in IGNORED.items():
             self.note(f"gather answers {answer} to {ignored}", is_odd(message))

@@ -1,12 +1,13 @@
 """Runs records on the second program and notes what they reach.
 
-A goal is a short line of text. `reached` has those of the logs, `reached_calls` and `reached_requester` those
-of the scripts, and `reached_replay` those of Replay for both.
+A goal is a short line of text. `reached` has those of the logs, `reached_calls`, `reached_requester` and
+`reached_units` those of the scripts, and `reached_replay` those of Replay for both.
 """
 import copy
 import io
 
 from second.wire import ABORT, CONTROL, GET_STATE, PAUSE, REPLAY, RESUME, message_header, packet_fields
+from units import most_packets
 
 # Arguments at a bound, for calls of both ends; what setup answers to an EID
 FAR_SLOTS = (2, (1 << 32) - 1)
@@ -15,7 +16,9 @@ EIDS = {0: 38, 7: 38, 8: 0, 254: 0, 255: 38}
 
 STATES = ("Idle", "Receive", "Process untaken", "Process taken", "Process answered", "Transmit")
 PRIMITIVES = {PAUSE: "Pause", RESUME: "Resume", ABORT: "Abort", GET_STATE: "Get State", REPLAY: "Replay"}
-COUNTS = (1, 2, 66)                             # packets of a message that is a goal
+COUNTS = (1, 2, 66)                             # packets of a message that is a goal of logs
+MOST = "the most"
+SCRIPT_COUNTS = (1, 2, MOST)                    # the same of scripts; how many are the most, the unit says
 ENTRY_GROUNDS = ("NMIMT", "MEB", "size")
 
 def picture(endpoint):
@@ -23,6 +26,10 @@ def picture(endpoint):
     kept = copy.copy(endpoint)
     kept.jobs, kept.counts = list(endpoint.jobs), list(endpoint.counts)
     return kept
+
+def counted(packets, unit):
+    """How many packets a message has, as a goal of scripts says it."""
+    return MOST if len(packets) == most_packets(unit) else len(packets)
 
 def answer_of(line):
     return line.split()[0]
@@ -86,6 +93,9 @@ class Run:
         before = self.pictured(tag)
         line = self.program.line(tag, body)
         self.lines.append(line)
+        self.noted(tag, before, body, line)
+
+    def noted(self, tag, before, body, line):
         self.notes[tag](before, body, line)
 
     def fault(self, rest):

@@ -5,6 +5,7 @@ by the second program, so that the two can disagree; only the integrity check is
 """
 from records import FULL, POLL, ask, command, control, damaged, packet, packets, record
 from second.wire import GET_STATE, MI, REPLAY, sealed
+from units import parts
 
 class Described(dict):
     """The logs or the scripts of a folder: a name, and its records and lines."""
@@ -23,6 +24,7 @@ class Described(dict):
 MI_COMMAND = packet(command())
 OTHER = packet(command(slot=1), tag=3)                # an MI command for slot 1
 COMMANDS, TAGS = (MI_COMMAND, OTHER), (1, 3)          # an MI command of each slot, and its message tag
+SLOTS = ((0, 1), (1, 0))                              # a slot, and the other one
 BODY = bytes((0, 7, 8, 9))
 
 def start(slot=0, tag=1, **fields):
@@ -61,11 +63,11 @@ def shows(word, slot=0):
     """A Get State that clears nothing, and its reply."""
     return [ask(GET_STATE, slot), POLL], [2, replied(word, slot)]
 
-def cut(message, tag=1):
+def cut(message, tag=1, unit=FULL):
     """The lines of the polls that send a whole message."""
-    parts = [message[at:at + FULL] for at in range(0, len(message), FULL)]
-    return [sent(part, i == 0, i == len(parts) - 1, i, tag=tag) for i, part in enumerate(parts)]
+    payloads = parts(message, unit)
+    return [sent(payload, i == 0, i == len(payloads) - 1, i, tag=tag) for i, payload in enumerate(payloads)]
 
-def sends(slot=0, body=BODY):
+def sends(slot=0, body=BODY, unit=FULL):
     """The lines of the polls that send the response to the slot's command of COMMANDS."""
-    return cut(response(body, slot), TAGS[slot])
+    return cut(response(body, slot), TAGS[slot], unit)

@@ -19,9 +19,9 @@ HERE = pathlib.Path(__file__).resolve().parent
 for folder in (HERE, HERE.parent / "tools"):
     sys.path.insert(0, str(folder))
 from captures import cli, pcap, told  # noqa: E402
-from records import POLL, ask, command, complete, packet, take  # noqa: E402
+from records import POLL, ask, command, complete, packet, packets, take  # noqa: E402
 from second import log as second_log  # noqa: E402
-from second.wire import GET_STATE, PAUSE, REPLAY, packet_of, response  # noqa: E402
+from second.wire import BASE_UNIT, GET_STATE, PAUSE, REPLAY, packet_of, response  # noqa: E402
 from programs import LOG  # noqa: E402
 from stored import stored_inputs  # noqa: E402
 
@@ -49,11 +49,11 @@ def data_of(*made):
     return [each[3:] for each in made]
 
 
-def response_packets(body, slot=0, tag=1, kind=1, source=8):
+def response_packets(body, slot=0, tag=1, kind=1, source=8, unit=BASE_UNIT):
     """A response as the board's packets."""
     message, found, last = response(kind, slot, body), [], False
     while not last:
-        made, last = packet_of(message, len(found), destination=9, source=source, to=0, tag=tag)
+        made, last = packet_of(message, unit, len(found), destination=9, source=source, to=0, tag=tag)
         found.append(made)
     return found
 
@@ -698,6 +698,20 @@ class Check(Case):
         self.assertIn("refused  line 1: answer 15: the first byte is not 84h, or ROR is 1", out)
         self.assertIn("1 to the board and refused", out)
 
+    def test_larger_unit(self):
+        """A board behind a bridge of unit 250: what is above 68 bytes is refused, or other than the endpoint's."""
+        parts = response_packets(bytes(range(200)), unit=250)
+        status, out, said = self.check([*data_of(*packets(command(300), unit=250)), *parts])
+        self.assertEqual(status, 1, said)
+        self.assertIn("refused  line 1: answer 11: the packet is longer than the 68 bytes that unit 64 "
+                      "allows (flag bit 6)\n", out)
+        self.assertIn("refused  line 2: answer 21: ", out)
+        self.assertIn("missing  line 3: the endpoint sends nothing here", out)
+        status, out, said = self.check([PACKET, *parts])
+        self.assertEqual(status, 1, said)
+        self.assertIn("differs  line 2: first at byte 3, in the MCTP header: c1 of the board, 81 of the endpoint", out)
+        self.assertIn("3 sent by the endpoint alone", out)
+
     def test_readdressed(self):
         asked = bytes((1, 10, 9, 0xC9)) + command()
         replied = REPLY[:2] + b"\x0a" + REPLY[3:]
@@ -806,7 +820,7 @@ class Writing(Case):
         """Every number of docs/ANSWERS.md that a log can show has words."""
         text = (HERE.parent / "docs" / "ANSWERS.md").read_text()
         text = text[:text.index("\n## The requester")]  # no record of a log is the requester's
-        numbers = {int(number) for number in re.findall(r"^\| (\d+) \|", text, re.MULTILINE)} - {0, 1, 2, 36, 38, 40}
+        numbers = {int(number) for number in re.findall(r"^\| (\d+) \|", text, re.MULTILINE)} - {0, 1, 2, 36, 38, 39, 40}
         self.assertLessEqual(numbers, set(told.REFUSALS))
 
 

@@ -107,7 +107,8 @@ class ShortPayloads(Case):
 
 class Grounds(Case):
     def test_headers(self):
-        self.says([packet(bytes(65))], "11, the packet has 69 bytes, more than 68", "sets flag bit 6 (packet longer than 68 bytes)")
+        self.says([packet(bytes(65))], "11, the packet has 69 bytes, more than the 68 bytes that unit 64 allows",
+                  "sets flag bit 6 (packet too long)")
         self.says([packet(command(), version=2)], "12, the version is 2 and not 1", "sets flag bit 7")
         self.says([packet(command(), destination=9)], "13, the destination is EID 9 and not ours, 8", "sets flag bit 8")
         self.says([packet(command(), to=0)], "14, TO is 0", "sets flag bit 12 (TO was 0)")
@@ -142,6 +143,15 @@ class Grounds(Case):
         whole = packets(command(4224))
         self.says([*whole[:-1], packet(bytes(64), som=0, eom=0, sequence=65), packet(b"\0", som=0, sequence=66)],
                   "23, the total would be 4,225 bytes, above 4,224")
+
+    def test_larger_unit(self):
+        """What a controller of unit 250 cut is too long for a log, whose unit is 64."""
+        self.says(packets(command(600), unit=250)[:1], "its first 250 bytes",
+                  "11, the packet has 254 bytes, more than the 68 bytes that unit 64 allows")
+        self.says(packets(command(65), unit=65), "11, the packet has 69 bytes")
+        self.assertEqual(summary(packets(command(600), unit=250))["remarks"],
+                         ["refused 3 times with 11, first at record 1: the packet is longer than the 68 "
+                          "bytes that unit 64 allows"])
 
     def test_two_grounds_of_37(self):
         self.says([timeout()], "37, slot 0 is not in Receive: it is Idle")

@@ -16,6 +16,8 @@ import tempfile
 import time
 import unittest
 
+from children import heed_signals
+
 ROOT = pathlib.Path(__file__).resolve().parent.parent
 COMMANDS = ("bash sh env awk sed sort find xargs sha256sum cut dirname readlink mkdir cat rm mv cp ln sleep wc flock head "
             "chmod").split()
@@ -107,7 +109,7 @@ class Case(unittest.TestCase):
 
     def start(self, **options):
         options = {"stdin": subprocess.PIPE, "stdout": subprocess.PIPE, "stderr": subprocess.PIPE, **options}
-        child = subprocess.Popen([self.root / "mi-log"], env=self.environment, **options)
+        child = subprocess.Popen([self.root / "mi-log"], env=self.environment, preexec_fn=heed_signals, **options)
         self.addCleanup(self.close, child)
         return child
 

@@ -22,6 +22,7 @@ TESTS = pathlib.Path(__file__).resolve().parent
 ROOT = TESTS.parent
 sys.path[:0] = [str(ROOT / "tools"), str(TESTS)]
 
+from children import heed_signals  # noqa: E402
 from explain.names import DONE, REFUSALS  # noqa: E402
 from second.calls import Calls, call_lines, records  # noqa: E402
 from second.wire import response, sealed, success  # noqa: E402
@@ -210,8 +211,9 @@ class Telling(Case):
         self.says("poll 0", "poll with a buffer of 0 bytes", "36, the buffer has 0 bytes, fewer than 68")
 
     def test_setup(self):
-        self.says("setup 9", "0, set up: the endpoint's EID is 9")
-        self.says("setup 255", "38, the EID is not 8 to 254; the state is the one for EID 8")
+        self.says("setup 9", "setup with EID 9\n",
+                  "0, set up: the endpoint's EID is 9 and its unit 64, all else is zero")
+        self.says("setup 255", "38, the EID is not 8 to 254; the state is the one for EID 8 and unit 64")
 
     def test_replies(self):
         self.says("control get-state slot 1 tag 90", "TAG 5ah, CPSR 0000h: state Idle")
@@ -283,7 +285,7 @@ class Telling(Case):
 
     def test_look(self):
         self.does("command mi 20", "command mi 20", "packet 01 08 09 c1 84", "control pause")
-        self.says("look", "EID 8, packets of 64 payload bytes, flags 1000h: bit 12 (TO was 0)",
+        self.says("look", "EID 8, unit 64 (payload bytes of a full packet), flags 1000h: bit 12 (TO was 0)",
                   "slot 0 goes first when no response is begun",
                   "a control reply waits for EID 9 under tag 2: 84 80 00 00 00 00 01 00", "paused, ticket 1, bit 3 is set")
 
@@ -321,7 +323,24 @@ class Telling(Case):
             words = "nothing happened, since the slot was not Idle or held no response" if held else "sends its last response again"
             self.assertIn(f"{words}\n", self.does("poll", "poll"))
 
+    def test_a_setup_that_is_wrong(self):
+        """A look has to show the EID and the unit that go with the answer."""
+        for line in ("0", "38", "39"):
+            self.begin(Printing(line))
+            self.says("setup 9 unit 250", f"-> {line}, ")
+            self.assertEqual(Requesting.ODD in self.written.getvalue(), line == "0", line)
+        for line in ("1", "x", "40", "0 0"):
+            self.begin(Printing(line))
+            self.refuses("setup 9", f"record 1: {line!r} is no line for this call", Trouble)
+        self.begin(Printing("17"))
+        self.says("record 16 0940", "record with tag 16", "-> 17")
+
     def test_looks_that_are_none(self):
+        for part, other in (("unit=64 ", ""), ("unit=64", "unit=x")):
+            program = Printing()
+            program.looks = {25: program.looks[25].replace(part, other)}
+            with self.subTest(other), self.assertRaisesRegex(Trouble, "which is no state"):
+                self.begin(program)
         for phase in ("idle:9", "idle:9:1", "idle:9:1:12:0", "held:9:1:12", "receive:9:1"):
             program = Printing()
             program.looks = {25: program.looks[25].replace("slot1=0,0,0,idle", f"slot1=0,0,0,{phase}")}
@@ -367,8 +386,10 @@ class Requesting(Case):
 
     def test_setup_and_store(self):
         self.says("requester setup 200", "requester: setup with EID 200",
-                  "-> 0, set up: the requester's EID is 200", "= requester EID 200, awaits nothing")
-        self.says("requester setup 255", "38, the EID is not 8 to 254; the state is the one for EID 8",
+                  "-> 0, set up: the requester's EID is 200 and its unit 64, and it awaits nothing",
+                  "= requester EID 200, awaits nothing")
+        self.says("requester setup 255",
+                  "38, the EID is not 8 to 254; the state is the one for EID 8 and unit 64",
                   "= requester EID 8, awaits nothing")
         self.says("requester store 0", "a store of 0 bytes", "it is lent from here on: receive answers 40")
         self.says("requester packet 01", "40, the store has 0 bytes and not 4,224", "nothing changed")
@@ -418,7 +439,8 @@ class Requesting(Case):
         for packet, words in (
                 ("", "10, the packet has 0 bytes, fewer than 5"),
                 ("01 09 08 c1", "10, the packet has 4 bytes, fewer than 5"),
-                ("01 09 08 c1 zeros 65", "11, the packet has 69 bytes, more than 68"),
+                ("01 09 08 c1 zeros 65",
+                 "11, the packet has 69 bytes, more than the 68 bytes that unit 64 allows"),
                 ("02 09 08 c1 84", "12, the version is 2 and not 1"),
                 ("01 0a 08 c1 84", "13, the destination is EID 10 and not the requester's, 9"),
                 ("01 09 08 c9 84", "14, TO is 1: it is no response"),
@@ -545,8 +567,9 @@ class Requesting(Case):
     def test_records_as_they_are(self):
         self.says("record 34 0801", "await EID 8 under tag 1", "= requester EID 9, awaits EID 8 under tag 1")
         self.says("record 38", "record with tag 38", "-> eid=9 unit=64 awaits=8:1 assembly=- check=5714439c")
-        self.begin(Printing("17"))
-        self.says("record 35 01", "record with tag 35", "-> 17")
+        for record in ("35 01", "32 0940", "33 ffff"):          # none of them is a call
+            self.begin(Printing("17"))
+            self.says(f"record {record}", f"record with tag {record[:2]}", "-> 17")
         self.begin(raw=True)
         self.says("requester look", "record 26 00 00\n", "line   eid=8 unit=64 awaits=- assembly=- check=")
 
@@ -599,12 +622,229 @@ class Requesting(Case):
         self.refuses("requester look", "a look at the requester printed 'eid=8', which is no state", Trouble)
 
 
+class Units(Case):
+    """Transmission units other than 64: at both ends, and another at each."""
+
+    ENDS = {"endpoint": "setup", "requester": "requester setup"}
+    LIMITS = {64: 68, 65: 69, 100: 104, 249: 253, 250: 254}     # of each unit, the bytes of a full packet
+
+    def units(self, endpoint, requester):
+        """Both ends anew, the requester with EID 9."""
+        self.does(f"setup 8 unit {endpoint}", f"requester setup 9 unit {requester}")
+
+    def too_long(self, length, unit):
+        longest = self.LIMITS[unit]
+        return f"the packet has {length} bytes, more than the {longest} bytes that unit {unit} allows"
+
+    def answered(self, length):
+        """The whole way of a command of this length and of a response as long."""
+        self.does(f"requester cut mi {length} fill rising", "deliver endpoint", "expect slot 0 untaken",
+                  "take 0", f"complete 0 taken rising {length - 8}", "polls", "requester await 8 1",
+                  "deliver requester", f"expect line 1 {length}", f"expect body rising {length - 8}",
+                  "expect awaits nothing")
+
+    def test_records(self):
+        for line, record in (("setup 9", "10 0100 09"), ("setup 9 unit 250", "10 0300 09 fa00"),
+                             ("setup 9 unit 65535", "10 0300 09 ffff"), ("requester setup 9", "20 0100 09"),
+                             ("requester setup 7 unit 0x40", "20 0300 07 4000")):
+            self.begin(save=io.BytesIO())
+            self.does("requester look")
+            start, expected = self.session.save.tell(), bytes.fromhex(record)
+            self.does(line)
+            self.assertEqual(self.session.save.getvalue()[start:][:len(expected)], expected, line)
+
+    def test_setups(self):
+        for end, word in self.ENDS.items():
+            for unit in self.LIMITS:
+                self.says(f"{word} 9 unit {unit}", f"setup with EID 9 and unit {unit}\n",
+                          f"-> 0, set up: the {end}'s EID is 9 and its unit {unit}, ")
+                self.does(f"expect unit {end} {unit}")
+            self.does(f"{word} 9", f"expect unit {end} 64")
+
+    def test_39(self):
+        for end, word in self.ENDS.items():
+            for unit in (0, 1, 63, 251, 255, 256, 320, 65535):
+                self.does(f"{word} 9 unit 250")
+                self.says(f"{word} 9 unit {unit}", f"setup with EID 9 and unit {unit}\n",
+                          "-> 39, the unit is not 64 to 250; the state is the one for EID 8 and unit 64")
+                self.does(f"expect unit {end} 64")
+            self.answers(f"{word} 9 unit 63", 39)
+
+    def test_38_before_39(self):
+        for end, word in self.ENDS.items():
+            for eid, unit in ((7, 63), (255, 251), (7, 250), (0, 65535)):
+                self.does(f"{word} 9 unit 250")
+                self.says(f"{word} {eid} unit {unit}",
+                          "-> 38, the EID is not 8 to 254; the state is the one for EID 8 and unit 64")
+                self.does(f"expect unit {end} 64")
+
+    def test_looks(self):
+        self.units(250, 249)
+        self.says("look", "EID 8, unit 250 (payload bytes of a full packet), flags 0000h: none is set")
+        self.says("requester look", "unit 249 (payload bytes of a full packet); its store: 4,224 bytes")
+
+    def test_reset_keeps_it(self):
+        self.units(250, 64)
+        self.does("reset", "expect unit endpoint 250", "requester await 8 1", "requester store 4224",
+                  "expect unit requester 64")
+
+    def test_records_as_they_are(self):
+        self.says("record 16 09fa00", "setup with EID 9 and unit 250", "0, set up")
+        self.says("record 32 09fb00", "requester: setup with EID 9 and unit 251", "39, the unit is not 64")
+
+    def test_grounds_at_the_endpoint(self):
+        for unit, longest in self.LIMITS.items():
+            self.does(f"setup 8 unit {unit}")
+            self.says(f"packet 01 08 09 c9 zeros {unit + 1}", "sets flag bit 6 (packet too long)",
+                      f"11, {self.too_long(longest + 1, unit)}")
+            self.answers(f"packet 01 08 09 c9 zeros {unit}", 15)
+            self.says(f"packet 01 08 09 89 84 08 zeros {unit - 3}", "sets flag bit 9 (payload not full",
+                      f"16, EOM 0, and the payload is {unit - 1} bytes and not {unit}")
+            self.answers(f"packet 01 08 09 89 84 08 zeros {unit - 2}", 0)
+            self.says(f"packet 01 08 09 19 zeros {unit - 1}", f"16, EOM 0, and the payload is {unit - 1} ")
+            self.says(f"poll {longest - 1}", f"poll with a buffer of {longest - 1} bytes",
+                      f"36, the buffer has {longest - 1} bytes, fewer than {longest}")
+            self.answers(f"poll {longest}", 0)
+            self.says("control get-state",
+                      "bit 6 (packet too long), bit 9 (payload not full where more was to come)")
+
+    def test_grounds_at_the_requester(self):
+        for unit, longest in self.LIMITS.items():
+            self.does(f"requester setup 9 unit {unit}", "requester await 8 1")
+            self.says(f"requester packet 01 09 08 c1 zeros {unit + 1}",
+                      f"11, {self.too_long(longest + 1, unit)}")
+            self.answers(f"requester packet 01 09 08 c1 zeros {unit}", 15)
+            self.says(f"requester packet 01 09 08 81 84 88 zeros {unit - 3}",
+                      f"16, EOM 0, and the payload is {unit - 1} bytes and not {unit}")
+            self.answers(f"requester packet 01 09 08 81 84 88 zeros {unit - 2}", 0)
+            self.does(f"expect gathered {unit}")
+
+    def test_plain_grounds(self):
+        """Where the packet does not show the ground, the number's words are told at the present unit."""
+        program = Printing("16")
+        program.looks = {tag: look.replace("unit=64", "unit=250") for tag, look in program.looks.items()}
+        self.begin(program)
+        self.says("requester packet 01", "16, EOM 0, and the payload is not 250 bytes")
+
+    def test_the_buffer_of_a_poll(self):
+        """Without a length it is that of a full packet at the endpoint's unit."""
+        for unit, longest in self.LIMITS.items():
+            self.begin(save=io.BytesIO())
+            self.units(unit, 64)
+            for line in ("poll", "polls"):
+                start = self.session.save.tell()
+                self.assertIn("  poll\n", self.does(line))
+                self.assertEqual(self.session.save.getvalue()[start:][:5], bytes((22, 2, 0, longest, 0)))
+                self.assertEqual(self.session.answers, [0])
+
+    def test_commands_are_cut_at_it(self):
+        for unit in self.LIMITS:
+            self.does(f"setup 8 unit {unit}")
+            for length in (unit, unit + 1, 3 * unit, 3 * unit + 1):
+                packets = -(-length // unit)
+                self.answers(f"command mi {length}", *[0] * (packets - 1), 1)
+                self.does("reset")
+        self.says("command mi 600 only 1", "packet of 254 bytes", "its first 250 bytes")
+        self.refuses("command mi 500 skip 2", "the message has 2, and only and skip leave none")
+        self.answers("control pause", 2)
+
+    def test_too_long(self):
+        """16 full packets fit at unit 250, and the next full one is too long."""
+        self.does("setup 8 unit 250")
+        self.answers("command mi 4250", *[0] * 16, 23)
+        self.says("command mi 4251 skip 16 no-som", "21, ")
+        self.answers("command mi 4224", *[0] * 16, 1)
+        self.answers("command slot 1 mi 4000 no-eom", *[0] * 16)
+
+    def test_commands_of_another_unit(self):
+        self.does("setup 8 unit 100")
+        self.answers("command mi 300 unit 101", 11, 11, 21)
+        self.answers("command mi 300 unit 99", 16, 21, 21, 21)
+        self.answers("command mi 80 unit 250", 1)
+        self.does("reset")
+        self.answers("command mi 300 unit 100", 0, 0, 1)
+        self.answers("control pause unit 11", 16, 21)
+
+    def test_an_exchange(self):
+        """What one end cuts is gathered by the other, also where its last packet is full or has one byte."""
+        for unit in (64, 65, 127, 249, 250):
+            self.units(unit, unit)
+            most = 4224 // unit * unit
+            for length in {20, unit - 1, unit, unit + 1, 4 * unit, 4 * unit + 1, most - 1, most, 4223, 4224}:
+                self.answered(length)
+
+    def test_an_exchange_in_words(self):
+        self.units(250, 250)
+        self.says("requester cut mi 4224", "-> 0, cut into 17 packets, 4,292 bytes",
+                  "packet of 254 bytes, EID 9 to 8, SOM TO",
+                  "packet of 228 bytes, EID 9 to 8, EOM TO, sequence 0, tag 1")
+        self.says("requester cut mi 300 buffer 307", "36, the buffer has 307 bytes, fewer than the 308 that")
+        self.does("requester cut mi 300", "requester await 8 1")
+        self.says("deliver endpoint", "packet of 254 bytes", "slot 0 has 250 bytes", "its first 250 bytes",
+                  "a later packet of a message, 50 payload bytes", "= slot 0 Process untaken, 300 bytes")
+        self.does("take 0")
+        self.says("complete 0 taken rising 300", "a response of 2 packets", "= slot 0 Transmit, 0 of 2")
+        self.says("polls", "sends a packet of 254 bytes", "packet 2 of 2 of the response of slot 0",
+                  "308 bytes in 2 packets, status 00h (success), integrity check right")
+        self.says("deliver requester", "its first 250 bytes", "250 bytes from EID 8 under tag 1",
+                  "1, a response is complete: 308 bytes from EID 8 under tag 1")
+        self.does("expect body rising 300", "requester primitive replay", "requester await 8 2")
+        self.says("deliver endpoint", "= slot 0 Transmit, 0 of 2 packets sent to EID 9 under tag 1")
+        self.does("polls")
+        self.answers("deliver requester tag 2", 2)
+        self.does("requester await 8 1")
+        self.answers("deliver requester tag 1", 0, 1)
+
+    def test_a_requester_of_a_smaller_unit(self):
+        self.units(250, 64)
+        self.does("requester cut mi 300")
+        self.says("deliver endpoint skip 4", "21, ")
+        self.says("deliver endpoint only 1", "16, EOM 0, and the payload is 64 bytes and not 250")
+        self.answers("deliver endpoint", 16, 21, 21, 21, 21)
+        self.does("requester cut mi 64", "deliver endpoint", "take 0", "complete 0 taken zeros 300", "polls",
+                  "requester await 8 1")
+        self.says("deliver requester", f"11, {self.too_long(254, 64)}", "21, ")
+        self.does("expect awaits 8 1", "expect gathered 0")
+
+    def test_a_requester_of_a_larger_unit(self):
+        self.units(64, 250)
+        self.does("requester cut mi 300")
+        self.says("deliver endpoint", f"11, {self.too_long(254, 64)}", "21, ")
+        self.does("requester cut mi 64", "deliver endpoint", "take 0", "complete 0 taken zeros 100", "polls",
+                  "requester await 8 1")
+        self.says("deliver requester", "16, EOM 0, and the payload is 64 bytes and not 250", "21, ")
+        self.does("expect awaits 8 1", "expect gathered 0")
+
+    def test_messages_that_fit_both(self):
+        """A message of one packet that is not longer than either unit goes through."""
+        self.units(100, 250)
+        self.answered(64)
+        self.answered(100)
+        self.units(250, 100)
+        self.answered(100)
+
+    def test_a_setup_between(self):
+        """Only a setup of its own changes the unit of an end."""
+        self.units(250, 100)
+        self.does("requester setup 255", "expect unit endpoint 250", "expect unit requester 64",
+                  "setup 8 unit 63", "requester setup 9 unit 249", "expect unit endpoint 64",
+                  "expect unit requester 249")
+
+
 class Lines(Case):
     def test_what_was_expected(self):
         for line, words in (
                 ("nothing", "expected one of setup, command, "), ("take", "expected a slot, 0 to 4,294,967,295, and the line ends"),
                 ("take x", "and there is 'x'"), ("take -1", "and there is '-1'"), ("take 4294967296", "and there is '4294967296'"),
                 ("take 0 0", "expected the end of the line, and there is '0'"), ("setup 256", "expected an EID, 0 to 255"),
+                ("setup unit 64", "expected an EID, 0 to 255, and there is 'unit'"),
+                ("setup 8 250", "expected unit, and there is '250'"),
+                ("setup 8 unit", "expected a unit, 0 to 65,535, and the line ends"),
+                ("setup 8 unit x", "expected a unit, 0 to 65,535, and there is 'x'"),
+                ("setup 8 unit -1", "and there is '-1'"), ("setup 8 unit 70000", "and there is '70000'"),
+                ("setup 8 unit 64 unit 64", "expected unit once"),
+                ("command mi 20 unit 0", "expected a unit, 1 to 8,188"),
+                ("command mi 20 unit 8189", "and there is '8189'"),
                 ("command", "expected one of mi, admin, pcie and nmimt"), ("command mi 20 pcie 24", "expected one of mi, admin"),
                 ("command mi 7", "expected a length, 8 to 8,192"), ("command mi 20 tag 8", "expected a message tag, 0 to 7"),
                 ("command mi 20 mi 20", "expected mi once"), ("command mi 20 bad", "expected one of slot, ciap,"),
@@ -619,7 +859,11 @@ class Lines(Case):
                 ("complete 0 x", "and there is 'x'"), ("poll 65536", "expected a buffer's length, 0 to 65,535"),
                 ("stores 4301 0", "expected the length of store 0, 0 to 4,300"), ("stores 1", "expected the length of store 1"),
                 ("reset 1", "expected the end"),
-                ("expect", "expected an answer's number, slot, body, line, awaits or gathered"),
+                ("expect", "expected an answer's number, slot, body, line, awaits, gathered or unit"),
+                ("expect unit", "expected endpoint or requester, and the line ends"),
+                ("expect unit 64", "expected endpoint or requester, and there is '64'"),
+                ("expect unit endpoint", "expected a unit, 0 to 65,535, and the line ends"),
+                ("expect unit endpoint 64 64", "expected the end of the line"),
                 ("expect x", "expected an answer's number"), ("expect slot 0 busy", "expected one of idle, receive"),
                 ("expect 0", "expected a call above"), ("help x", "expected one of setup"),
                 ("help requester x", "and there is 'requester x'")):
@@ -631,7 +875,9 @@ class Lines(Case):
                 ("requester", "expected one of requester setup, requester store, "),
                 ("requester x", "requester look, and there is 'requester x'"),
                 ("requester setup", "expected an EID, 0 to 255, and the line ends"),
-                ("requester setup 9 64", "expected the end of the line, and there is '64'"),
+                ("requester setup 9 64", "expected unit, and there is '64'"),
+                ("requester setup 9 unit 65536", "expected a unit, 0 to 65,535, and there is '65536'"),
+                ("requester setup 9 unit 64 1", "expected unit, and there is '1'"),
                 ("requester store 4301", "expected the store's length, 0 to 4,300"),
                 ("requester await 8", "expected a message tag, 0 to 255, and the line ends"),
                 ("requester await 256 1", "expected a source EID, 0 to 255"),
@@ -671,7 +917,9 @@ class Lines(Case):
                             ("expect body 00", "expected 00, and the body was none"),
                             ("expect line 0 2", "expected 0 2, and the line was 0 1"),
                             ("expect awaits 8 1", "expected EID 8 under tag 1, and the awaiting was nothing"),
-                            ("expect gathered 64", "expected 64, and the gathered length was 0")):
+                            ("expect gathered 64", "expected 64, and the gathered length was 0"),
+                            ("expect unit endpoint 65", "expected 65, and the unit of the endpoint was 64"),
+                            ("expect unit requester 9", "expected 9, and the unit of the requester was 64")):
             with self.assertRaises(Unexpected) as caught:
                 self.does(line)
             self.assertEqual(str(caught.exception), words)
@@ -683,7 +931,9 @@ class Lines(Case):
         self.says("help command", "bad-check", "a wrong integrity check")
         self.says("help control", "control pause|resume|abort|get-state|replay|OPCODE [slot N]", "Replay takes only 0")
         self.says("help requester primitive", "requester primitive pause|resume|abort|get-state|replay|OPCODE [slot N]")
-        self.says("help requester", "requester setup EID", "requester look")
+        self.says("help setup", "setup EID [unit UNIT]", "64 to 250 (64 if not given)")
+        self.says("help requester setup", "requester setup EID [unit UNIT]", "64 to 250 (64 if not given)")
+        self.says("help requester", "requester setup EID [unit UNIT]", "requester look")
         self.says("help requester cut", "bytes BYTES", "the rest of the line")
         self.assertNotIn("requester setup", self.does("help requester cut"))
 
@@ -705,6 +955,9 @@ class Lines(Case):
         self.assertEqual(cli.completion("requester primitive ", "rep", 0), "replay ")
         self.assertEqual(cli.completion("requester cut mi 20 ", "buf", 0), "buffer ")
         self.assertEqual(cli.completion("deliver ", "end", 0), "endpoint ")
+        self.assertEqual(cli.completion("setup 8 ", "", 0), "unit ")
+        self.assertEqual(cli.completion("requester setup 9 ", "", 0), "unit ")
+        self.assertEqual(cli.completion("expect unit ", "end", 0), "endpoint ")
         self.assertIsNone(cli.completion("help command ", "", 0))
         self.assertIsNone(cli.completion("x ", "", 0))
 
@@ -769,7 +1022,8 @@ class Tool(unittest.TestCase):
             note = pathlib.Path(folder) / "pid"
             for number, status in ((signal.SIGTERM, 143), (signal.SIGHUP, 129), (signal.SIGINT, 130)):
                 child = subprocess.Popen([ROOT / "mi-try", "--program", f"sh -c 'echo $$ >{note}; exec sleep 987'"],
-                                         stdin=subprocess.PIPE, stdout=subprocess.PIPE, stderr=subprocess.PIPE)
+                                         stdin=subprocess.PIPE, stdout=subprocess.PIPE, stderr=subprocess.PIPE,
+                                         preexec_fn=heed_signals)
                 while not note.exists() or not note.read_text().strip():
                     time.sleep(0.01)
                 child.send_signal(number)
@@ -786,7 +1040,8 @@ class Prompt(unittest.TestCase):
     def setUp(self):
         self.terminal, theirs = pty.openpty()
         self.child = subprocess.Popen([ROOT / "mi-try", "--program", SECOND], stdin=theirs, stdout=theirs, stderr=theirs,
-                                      env={**os.environ, "TERM": "dumb", "COLUMNS": "100"}, start_new_session=True)
+                                      env={**os.environ, "TERM": "dumb", "COLUMNS": "100"}, start_new_session=True,
+                                      preexec_fn=heed_signals)
         os.close(theirs)
         self.seen = ""
         self.addCleanup(self.close)

@@ -6,7 +6,7 @@ It is written from documents 01 and 02 and the page of the calls program alone.
     python3 tests/second calls < SCRIPT     the calls program
     python3 tests/second bench              the lines of the bench
 
-    wire       packets, messages and the integrity check, as bytes
+    wire       the integrity check, EIDs and the transmission unit, packets and messages, as bytes
     endpoint   what a slot holds, and the calls
     requester  the controller's end: what it awaits, and the calls
     framing    how records are read
@@ -15,6 +15,6 @@ It is written from documents 01 and 02 and the page of the calls program alone.
     bench      the lines of the bench
 
 Each part uses only those above it. Sentences in double quotes in the comments are sentences of document 01
-or, in `endpoint` and `requester`, of document 02 too and, in `calls`, of the page that fixes its records
-and lines.
+or 02 and, in `calls`, of the page that fixes its records and lines. Where a quoted sentence of 01 says 64,
+U is meant, and where it says 68, U + 4.
 """

@@ -3,7 +3,7 @@
 A function has the lines of one subject, and SUBJECTS the order in which they are printed.
 """
 from second.endpoint import Endpoint
-from second.wire import crc32c, sealed
+from second.wire import BASE_UNIT, crc32c, sealed
 
 ISCSI = bytes.fromhex("01c00000 00000000 00000000 00000000 14000000 00000400"
                       "00000014 00000018 28000000 00000000 02000000 00000000")
@@ -16,7 +16,7 @@ def published_checks():
         yield f"crc32c {name} {crc32c(data):08x}"
 
 def ticket_wrap():
-    _, endpoint = Endpoint.setup(8)
+    _, endpoint = Endpoint.setup(8, BASE_UNIT)              # "01's cases [..] keep U 64"
     endpoint.counts[0] = 4294967295
     endpoint.receive(MI_PACKET)
     yield f"ticket after 4294967295: {endpoint.take(0)[1].number}"

@@ -6,7 +6,7 @@ from second.endpoint import (ENDPOINT_BITS, SLOT_BIT, STORE, Answered, Endpoint,
                              Ticket, Transmit)
 from second.framing import framed
 from second.requester import Requester
-from second.wire import PAYLOAD, ControlRequest, crc32c
+from second.wire import BASE_EID, BASE_UNIT, ControlRequest, crc32c
 
 SETUP, STORES, RECEIVE, TAKE, READ, COMPLETE, POLL, TIMEOUT, RESET, LOOK = range(16, 26)
 
@@ -19,15 +19,17 @@ LONGEST_BODY = 8192         # "a body of that many bytes, at most 8,192"
 UNTOUCHED = b"\xa5"         # "lent anew at just that length, every byte A5h"
 
 # The least and the greatest length of each body
-LENGTHS = {SETUP: (1, 1), STORES: (4, 4), RECEIVE: (0, LONGEST_BODY), TAKE: (4, 4), READ: (4, 4),
+LENGTHS = {SETUP: (1, 3), STORES: (4, 4), RECEIVE: (0, LONGEST_BODY), TAKE: (4, 4), READ: (4, 4),
            COMPLETE: (8, LONGEST_BODY), POLL: (2, 2), TIMEOUT: (4, 4), RESET: (0, 0), LOOK: (0, 0),
-           REQUESTER_SETUP: (1, 1), REQUESTER_STORE: (2, 2), REQUESTER_AWAIT: (2, 2),
+           REQUESTER_SETUP: (1, 3), REQUESTER_STORE: (2, 2), REQUESTER_AWAIT: (2, 2),
            REQUESTER_CUT: (4, LONGEST_BODY), REQUESTER_PRIMITIVE: (12, 12),
            REQUESTER_RECEIVE: (0, LONGEST_BODY), REQUESTER_LOOK: (0, 0)}
 
 # "Numbers in a record are low byte first; slots and tickets are full 32-bit numbers."
 NUMBER, TWO_NUMBERS, LENGTH, TWO_LENGTHS = (struct.Struct(form) for form in ("<I", "<II", "<H", "<HH"))
 
+# "EID (1); from 2026-04 on U (2) may follow, and without it U is 64"
+EID, EID_AND_UNIT = struct.Struct("<B"), struct.Struct("<BH")
 # "destination (1), tag (1), buffer's length (2), message"
 CUT = struct.Struct("<BBH")
 # "destination (1), message tag (1), slot (4), opcode (1), the primitive's TAG (1), CPSP (2),
@@ -37,15 +39,31 @@ PRIMITIVE = struct.Struct("<BBIBBHH")
 # The records that change what is lent
 LENT = {STORES: TWO_LENGTHS, REQUESTER_STORE: LENGTH}
 
+# "32 setup: as 16."
+SETUPS = SETUP, REQUESTER_SETUP
+
 def records(stream):
     """Tag and bytes of each record; both are None for a faulty one, and that is the last."""
     for tag, data in framed(stream, LENGTHS):
-        # "lengths of store 0 and store 1 that are lent from now on (2, 2); above 4,300 is `bad`";
-        # "length lent from now on (2), above 4,300 `bad`"
-        if tag in LENT and max(LENT[tag].unpack(data)) > MEMORY:
+        if is_bad(tag, data):
             yield None, None
             return
         yield tag, data
+
+def is_bad(tag, data):
+    """Whether a record whose length lies between those in LENGTHS is faulty all the same."""
+    # "lengths of store 0 and store 1 that are lent from now on (2, 2); above 4,300 is `bad`";
+    # "length lent from now on (2), above 4,300 `bad`"
+    if tag in LENT:
+        return max(LENT[tag].unpack(data)) > MEMORY
+    # "a body's length that the tag can't have": one byte of U alone
+    return tag in SETUPS and len(data) not in (EID.size, EID_AND_UNIT.size)
+
+def setup_arguments(data):
+    """EID and U of a setup's record."""
+    if len(data) == EID_AND_UNIT.size:
+        return EID_AND_UNIT.unpack(data)
+    return *EID.unpack(data), BASE_UNIT                     # "without it U is 64"
 
 
 # How a line shows a value
@@ -111,10 +129,11 @@ class RequesterCalls:
     """The requester's calls under way: the requester, and its store's memory with the length that is lent."""
 
     def __init__(self):
-        # "At the start: [..] requester as a setup with EID 8 [..] leaves them"; "4,224 bytes at the start"
+        # "At the start: [..] requester as a setup with EID 8 (and U 64) leaves them"; "4,224 bytes at the
+        # start"
         self.memory = bytearray(MEMORY)
         self.lent = STORE
-        self.setup(bytes((8,)))
+        self.setup(EID_AND_UNIT.pack(BASE_EID, BASE_UNIT))
         self.calls = {REQUESTER_SETUP: self.setup, REQUESTER_STORE: self.store,
                       REQUESTER_AWAIT: self.expect, REQUESTER_CUT: self.cut,
                       REQUESTER_PRIMITIVE: self.primitive, REQUESTER_RECEIVE: self.receive,
@@ -125,7 +144,7 @@ class RequesterCalls:
 
     def setup(self, data):
         # "32 setup: as 16."
-        answer, self.requester = Requester.setup(data[0])
+        answer, self.requester = Requester.setup(*setup_arguments(data))
         self.lend()
         return answer
 
@@ -160,7 +179,7 @@ class RequesterCalls:
     def look(self, _):
         """ "awaits `SOURCE:TAG`, assembly `SEQUENCE:LENGTH`" """
         requester = self.requester
-        shown = {"eid": requester.eid, "unit": PAYLOAD, "awaits": joined_or_none(requester.awaited),
+        shown = {"eid": requester.eid, "unit": requester.unit, "awaits": joined_or_none(requester.awaited),
                  "assembly": joined_or_none(requester.assembly), "check": check_of(bytes(requester.store))}
         return named(shown)
 
@@ -170,10 +189,11 @@ class Calls:
     the requester's calls."""
 
     def __init__(self):
-        # "At the start: endpoint [..] as a setup with EID 8 [..] leaves them"; "4,224 bytes at the start"
+        # "At the start: endpoint [..] as a setup with EID 8 (and U 64) leaves them"; "4,224 bytes at the
+        # start"
         self.memory = bytearray(MEMORY), bytearray(MEMORY)
         self.lent = STORE, STORE
-        self.setup(bytes((8,)))
+        self.setup(EID_AND_UNIT.pack(BASE_EID, BASE_UNIT))
         self.calls = {SETUP: self.setup, STORES: self.stores, RECEIVE: self.receive, TAKE: self.take,
                       READ: self.read, COMPLETE: self.complete, POLL: self.poll, TIMEOUT: self.timeout,
                       RESET: self.reset, LOOK: self.look, **RequesterCalls().calls}
@@ -186,9 +206,9 @@ class Calls:
         self.endpoint.stores = [memoryview(memory)[:length] for memory, length in zip(self.memory, self.lent)]
 
     def setup(self, data):
-        # "A setup replaces the state by the one that the call gives, beside 38 [..] too, and leaves
-        # stores, lent lengths [..] alone."
-        answer, self.endpoint = Endpoint.setup(data[0])
+        # "A setup replaces the state by the one that the call gives, beside 38 and 39 too, and leaves
+        # stores, lent lengths and the other end alone."
+        answer, self.endpoint = Endpoint.setup(*setup_arguments(data))
         self.lend()
         return answer
 
@@ -227,9 +247,9 @@ class Calls:
         return self.endpoint.reset()
 
     def look(self, _):
-        """ "flags: four hex digits, bits 4 to 14 of the Get State word at their places"; "unit is 64" """
+        """ "flags: four hex digits, bits 4 to 14 of the Get State word at their places" """
         endpoint = self.endpoint
-        shown = {"eid": endpoint.eid, "unit": PAYLOAD, "flags": f"{endpoint.flags & ENDPOINT_BITS:04x}",
+        shown = {"eid": endpoint.eid, "unit": endpoint.unit, "flags": f"{endpoint.flags & ENDPOINT_BITS:04x}",
                  "turn": endpoint.turn, "last": int(endpoint.last_was_control),
                  "reply": shown_reply(endpoint.reply),
                  "slot0": shown_slot(endpoint, 0), "slot1": shown_slot(endpoint, 1),

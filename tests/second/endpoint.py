@@ -1,6 +1,6 @@
 """The two-slot endpoint: what a slot holds, and the calls.
 
-    answer, endpoint = Endpoint.setup(eid)                answer 0 or 38
+    answer, endpoint = Endpoint.setup(eid, unit)          answer 0, 38 or 39
     endpoint.receive(packet), .timeout(slot), .reset()    -> answer
     endpoint.take(slot)                    -> (0, Ticket) or (refusal, None)
     endpoint.read(slot)                    -> memoryview of the slot's store, may be empty
@@ -13,6 +13,7 @@ To look at it, changing nothing:
                        'Process answered' (its response is there) or 'Transmit'
     .held(slot)        ((source, tag), length) of the response that an Idle slot still holds, else None
     .flags_word(slot)  the CPSR that Get State would report for the slot
+    .eid, .unit        its EID and U
     .stores            the two lent stores, bytearrays; assign others to lend others
     .paused            bits 0 and 1: pause flags of slots 0 and 1
     .flags             bits 4 to 12 and 14; bit 3 is slot 0's, bit 19 is slot 1's bit 3
@@ -27,12 +28,11 @@ To look at it, changing nothing:
 """
 from collections import namedtuple
 
-from second.wire import (ABORT, CONTROL, LEAST, LONGEST_MESSAGE, LONGEST_PACKET, PAUSE, PAYLOAD, REPLAY,
-                         RESUME, control_request, error, is_sealed, message_header, packet_fields,
-                         packet_of, response, success)
+from second.wire import (ABORT, CONTROL, LEAST, LONGEST_MESSAGE, PAUSE, REPLAY, RESUME, control_request,
+                         error, is_sealed, longest_packet, message_header, packet_fields, packet_of,
+                         response, setup_values, success)
 
 STORE = LONGEST_MESSAGE     # "Each slot has a store of 4,224 bytes"
-BUFFER = LONGEST_PACKET     # "36: buffer below 68 bytes"
 
 # "A ticket is a kind of number of its own, never mixed with a slot number."
 Ticket = namedtuple("Ticket", "number")
@@ -100,9 +100,9 @@ def control_error(header, request):
 class Endpoint:
     """ "The endpoint has two slots, kept side by side and chosen by number." """
 
-    def __init__(self, eid):
-        # "all zero but the EID, slot 0's turn, last packet counted as not control"
-        self.eid = eid
+    def __init__(self, eid, unit):
+        # "all zero but the EID, slot 0's turn, last packet counted as not control"; U is kept as the EID is
+        self.eid, self.unit = eid, unit
         self.jobs, self.counts = [IDLE, IDLE], [0, 0]
         self.paused = self.flags = 0
         self.reply = None
@@ -111,11 +111,9 @@ class Endpoint:
         self.stores = [bytearray(STORE), bytearray(STORE)]
 
     @classmethod
-    def setup(cls, eid):
-        # "Setup: EID 8 to 254, else 38, and the state beside that answer is the one for EID 8."
-        if 8 <= eid <= 254:
-            return 0, cls(eid)
-        return 38, cls(8)
+    def setup(cls, eid, unit):
+        answer, eid, unit = setup_values(eid, unit)
+        return answer, cls(eid, unit)
 
     # Looking, changing nothing
 
@@ -202,7 +200,7 @@ class Endpoint:
         n = len(packet)                                     # "n is its whole length."
         if n < 5:
             return self.refuse(10)
-        if n > LONGEST_PACKET:
+        if n > longest_packet(self.unit):                   # "n above 68"
             return self.refuse(11, 6)
         fields, payload = packet_fields(packet), bytes(packet[4:])
         if fields.version != 1:
@@ -223,7 +221,7 @@ class Endpoint:
             self.go_idle(ended)
         if payload[0] != 0x84:
             return self.refuse(15)
-        if not fields.eom and len(payload) != PAYLOAD:
+        if not fields.eom and len(payload) != self.unit:    # "EOM 0, payload not 64"
             return self.refuse(16, 9)
         if fields.eom and len(payload) < 8:
             return self.refuse(17)
@@ -252,7 +250,7 @@ class Endpoint:
             return self.refuse(21, 10)
         job = self.jobs[slot]
         for number, bit, applies in ((22, 11, fields.sequence != (job.sequence + 1) % 4),
-                                     (16, 9, not fields.eom and len(payload) != PAYLOAD),
+                                     (16, 9, not fields.eom and len(payload) != self.unit),
                                      (23, None, job.length + len(payload) > LONGEST_MESSAGE)):
             if applies:
                 self.go_idle(slot)                          # "For the next three the slot also goes to Idle"
@@ -390,7 +388,7 @@ class Endpoint:
 
     def reset(self):
         # "both slots Idle, bits 3 to 12 cleared, control reply gone, bit 14 set, slot 0's turn,
-        # last packet counted as not control, ticket counts kept; answer 0"
+        # last packet counted as not control, ticket counts kept; answer 0"; the EID and U stay
         # "The held response is lost [..] at reset"
         self.go_idle(0)
         self.go_idle(1)
@@ -405,7 +403,7 @@ class Endpoint:
     def poll(self, buffer_length):
         if not self.stores_fit():
             return 40, b""
-        if buffer_length < BUFFER:
+        if buffer_length < longest_packet(self.unit):       # "36: buffer below 68 bytes"
             return 36, b""
         slot = self.ready()
         # "If a control reply waits and either the last packet handed out was not control or
@@ -454,4 +452,4 @@ class Endpoint:
     def packet(self, who, message, number):
         # "source ours, destination the requester, TO 0, the request's tag"
         destination, tag = who
-        return packet_of(message, number, destination, self.eid, 0, tag)
+        return packet_of(message, self.unit, number, destination, self.eid, 0, tag)

@@ -1,6 +1,7 @@
 """The log program: the records of a log, and the line that each prints."""
-from second.endpoint import BUFFER, Endpoint, Ticket
+from second.endpoint import Endpoint, Ticket
 from second.framing import framed
+from second.wire import BASE_UNIT, longest_packet
 
 PACKET, POLL, TIMEOUT, TAKE, COMPLETE, RESET = range(1, 7)
 
@@ -15,7 +16,7 @@ class Log:
     """A log under way: the endpoint, and the ticket last taken from each slot."""
 
     def __init__(self):
-        _, self.endpoint = Endpoint.setup(8)                # "EID is 8."
+        _, self.endpoint = Endpoint.setup(8, BASE_UNIT)     # "EID is 8."; "01's [..] log keep U 64"
         self.taken = {}
         self.calls = {PACKET: self.endpoint.receive, POLL: self.poll, TIMEOUT: self.timeout,
                       TAKE: self.take, COMPLETE: self.complete, RESET: self.reset}
@@ -26,7 +27,7 @@ class Log:
 
     def poll(self, _):
         # "a poll that sends prints 1, a space and lower-case hex"
-        answer, packet = self.endpoint.poll(BUFFER)
+        answer, packet = self.endpoint.poll(longest_packet(BASE_UNIT))
         return "1 " + packet.hex() if answer == 1 else answer
 
     def timeout(self, data):

@@ -1,6 +1,6 @@
 """The requester, the controller's end: what it awaits, and the calls.
 
-    answer, requester = Requester.setup(eid)                   answer 0 or 38
+    answer, requester = Requester.setup(eid, unit)             answer 0, 38 or 39
     requester.expect(source, tag)                              -> answer
     requester.cut(destination, tag, message, buffer)           -> (answer, bytes written)
     requester.primitive(destination, tag, slot, ControlRequest, buffer)
@@ -10,14 +10,15 @@
 
 To look at it, changing nothing:
 
+    .eid, .unit its EID and U
     .store      the lent store, a bytearray; assign another to lend another
     .awaited    the (source, tag) that is awaited, or None
     .assembly   what was gathered so far of the message from there, or None
 """
 from collections import namedtuple
 
-from second.wire import (CONTROL, LONGEST_MESSAGE, LONGEST_PACKET, PAYLOAD, control_message, is_sealed,
-                         message_header, packet_fields, packet_of)
+from second.wire import (CONTROL, LONGEST_MESSAGE, control_message, is_sealed, longest_packet, message_header,
+                         packet_fields, packet_of, setup_values)
 
 STORE = LONGEST_MESSAGE     # "one lent store of 4,224 bytes"
 SHORTEST_MESSAGE = 8        # "a command of 8 to 4,224 bytes"
@@ -29,11 +30,11 @@ Assembly = namedtuple("Assembly", "sequence length")
 
 # A message's first packet
 
-def first_refusal(fields, payload):
+def first_refusal(fields, payload, unit):
     """The first number in 01's table for SOM 1 whose test applies, or None; 20, the last, is not asked."""
     if payload[0] != 0x84:
         return 15
-    if not fields.eom and len(payload) != PAYLOAD:
+    if not fields.eom and len(payload) != unit:             # "EOM 0, payload not 64"
         return 16
     if fields.eom and len(payload) < 8:
         return 17
@@ -56,19 +57,17 @@ def control_refusal(fields, payload):
 class Requester:
     """ "It awaits one source and tag at a time (none after setup)" """
 
-    def __init__(self, eid):
-        self.eid = eid
+    def __init__(self, eid, unit):
+        self.eid, self.unit = eid, unit
         self.awaited = None
         self.assembly = None
         self.store = bytearray(STORE)
 
     @classmethod
-    def setup(cls, eid):
-        # "Its setup is as 01's.": "EID 8 to 254, else 38, and the state beside that answer is the one
-        # for EID 8."
-        if 8 <= eid <= 254:
-            return 0, cls(eid)
-        return 38, cls(8)
+    def setup(cls, eid, unit):
+        # "Its setup is as 01's."; "Both setups (2026-01's too) take U"
+        answer, eid, unit = setup_values(eid, unit)
+        return answer, cls(eid, unit)
 
     # Awaiting
 
@@ -110,7 +109,7 @@ class Requester:
         end to end." """
         packets, last = [], False
         while not last:
-            packet, last = packet_of(message, len(packets), destination, self.eid, 1, tag)
+            packet, last = packet_of(message, self.unit, len(packets), destination, self.eid, 1, tag)
             packets.append(packet)
         return b"".join(packets)
 
@@ -124,7 +123,7 @@ class Requester:
         n = len(packet)                                     # "n is its whole length."
         if n < 5:
             return 10, None
-        if n > LONGEST_PACKET:
+        if n > longest_packet(self.unit):                   # "n above 68"
             return 11, None
         fields, payload = packet_fields(packet), bytes(packet[4:])
         if fields.version != 1:
@@ -144,7 +143,7 @@ class Requester:
         # refused below"
         if awaited:
             self.assembly = None
-        refusal = first_refusal(fields, payload)
+        refusal = first_refusal(fields, payload, self.unit)
         if refusal is not None:
             return refusal, None
         if not awaited:
@@ -161,7 +160,7 @@ class Requester:
         if assembly is None or not awaited:
             return 21, None
         for number, applies in ((22, fields.sequence != (assembly.sequence + 1) % 4),
-                                (16, not fields.eom and len(payload) != PAYLOAD),
+                                (16, not fields.eom and len(payload) != self.unit),
                                 (23, assembly.length + len(payload) > LONGEST_MESSAGE)):
             if applies:
                 self.assembly = None                        # "For the next three the slot also goes to Idle"

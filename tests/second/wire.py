@@ -1,8 +1,6 @@
-"""Bytes on the wire: the integrity check, packets and messages."""
+"""Bytes on the wire: the integrity check, EIDs and the transmission unit, packets and messages."""
 from collections import namedtuple
 
-PAYLOAD = 64                # "Then 1 to 64 payload bytes."
-LONGEST_PACKET = 68         # four header bytes and a full payload
 LONGEST_MESSAGE = 4224      # "A message has 8 to 4,224 bytes with these four."
 
 
@@ -44,6 +42,27 @@ def is_sealed(message):
     return sealed(message[:-4]) == message
 
 
+# EIDs and the transmission unit: a full payload has U bytes. "Wherever 01 says 64 read U, and 68 read U + 4."
+
+LEAST_EID, GREATEST_EID = 8, 254        # "EID 8 to 254"
+LEAST_UNIT, GREATEST_UNIT = 64, 250     # "U from 64 to 250"
+BASE_EID, BASE_UNIT = 8, 64             # "the state for EID 8, U 64"; "01's cases and log keep U 64"
+
+def setup_values(eid, unit):
+    """The answer of either end's setup, and the EID and U of the state beside it."""
+    # "EID 8 to 254, else 38"; "Both setups [..] take U from 64 to 250, else 39, tested after 38;
+    # beside either stands the state for EID 8, U 64."
+    if not LEAST_EID <= eid <= GREATEST_EID:
+        return 38, BASE_EID, BASE_UNIT
+    if not LEAST_UNIT <= unit <= GREATEST_UNIT:
+        return 39, BASE_EID, BASE_UNIT
+    return 0, eid, unit
+
+def longest_packet(unit):
+    """Four header bytes, "Then 1 to 64 payload bytes."; so "68 read U + 4" """
+    return 4 + unit
+
+
 # Packets
 
 PacketFields = namedtuple("PacketFields", "version destination source som eom sequence to tag")
@@ -55,13 +74,13 @@ def packet_fields(packet):
     return PacketFields(version, destination, source,
                         marks >> 7, marks >> 6 & 1, marks >> 4 & 3, marks >> 3 & 1, marks & 7)
 
-def packet_of(message, number, destination, source, to, tag):
+def packet_of(message, unit, number, destination, source, to, tag):
     """Packet `number` of a message, and whether it is the last: "full 64-byte payloads, then the
-    rest; [..] sequence from 0 modulo 4, SOM and EOM at the ends" """
-    start = number * PAYLOAD
-    last = start + PAYLOAD >= len(message)
+    rest; [..] sequence from 0 modulo 4, SOM and EOM at the ends"; for 64 "read U" """
+    start = number * unit
+    last = start + unit >= len(message)
     marks = (number == 0) << 7 | last << 6 | number % 4 << 4 | to << 3 | tag
-    return bytes((1, destination, source, marks)) + message[start:start + PAYLOAD], last
+    return bytes((1, destination, source, marks)) + message[start:start + unit], last
 
 
 # Messages

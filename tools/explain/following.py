@@ -12,8 +12,8 @@ from second.wire import CONTROL, PAUSE, REPLAY, RESUME, control_request, message
 from .names import DONE, REFUSALS
 
 # The slots and what belongs to both, as the second program has them. words: what Get State would report for each slot;
-# held: the last response, for each slot that is Idle and still holds it
-View = namedtuple("View", "jobs states paused words counts reply held")
+# held: the last response, for each slot that is Idle and still holds it; unit: the bytes of a full payload
+View = namedtuple("View", "jobs states paused words counts reply held unit")
 
 # A control primitive that was answered: the record that brought it, the body of the reply that then waited, and the slots then,
 # where they are known
@@ -98,7 +98,7 @@ class Follower:
         endpoint = self.endpoint
         return View(tuple(endpoint.jobs), (endpoint.state(0), endpoint.state(1)), endpoint.paused,
                     (endpoint.flags_word(0), endpoint.flags_word(1)), tuple(endpoint.counts), endpoint.reply,
-                    (endpoint.held(0), endpoint.held(1)))
+                    (endpoint.held(0), endpoint.held(1)), endpoint.unit)
 
     def event(self, record, line):
         """Lets the second program do what the record says."""
@@ -231,7 +231,8 @@ def is_lost(event, slot):
     return bool(was_there) and not is_there
 
 
-def packets_of(job):
-    """Packets that a response has, and how many went."""
+def packets_of(view, slot):
+    """Packets that the slot's response has, and how many went."""
+    job = view.jobs[slot]
     length, sent = (job.length, job.sent) if isinstance(job, Transmit) else (job.response, 0)
-    return -(-length // 64), sent
+    return -(-length // view.unit), sent

@@ -1,6 +1,9 @@
 """Tables: what each number of the document is called, in words."""
+import functools
+
 from second.log import COMPLETE, PACKET, POLL, RESET, TAKE, TIMEOUT
-from second.wire import ABORT, ADMIN, CONTROL, GET_STATE, MI, PAUSE, PCIE, REPLAY, RESUME
+from second.wire import (ABORT, ADMIN, BASE_UNIT, CONTROL, GET_STATE, MI, PAUSE, PCIE, REPLAY, RESUME,
+                         longest_packet)
 
 KINDS = {PACKET: "packet", POLL: "poll", TIMEOUT: "timeout", TAKE: "take", COMPLETE: "complete", RESET: "reset"}
 
@@ -14,33 +17,45 @@ DONE = {
     RESET: {0: "reset"},
 }
 
-# Answers of a call that was refused
-REFUSALS = {
-    10: "the packet is shorter than 5 bytes",
-    11: "the packet is longer than 68 bytes",
-    12: "the version is not 1",
-    13: "the destination is not our EID",
-    14: "TO is 0",
-    15: "the first byte is not 84h, or ROR is 1",
-    16: "EOM 0, and the payload is not 64 bytes",
-    17: "EOM 1, and the payload is below 8 bytes",
-    18: "a control primitive that is not one packet of 12 payload bytes",
-    19: "the integrity check is wrong",
-    20: "a command whose slot is not Idle",
-    21: "no slot is in Receive with this source and tag",
-    22: "out of sequence",
-    23: "the total is above 4,224 bytes",
-    30: "no such slot",
-    31: "the slot is not in Process, or its response is there",
-    32: "the ticket is not the slot's present one",
-    33: "taken already",
-    34: "not taken",
-    35: "the body has not 4 to 4,216 bytes",
-    36: "the buffer is below 68 bytes",
-    37: "the slot is not in Receive, or its pause flag is set",
-    38: "the EID is not 8 to 254",
-    40: "a store has not 4,224 bytes",
-}
+
+def longest_words(unit):
+    """The bytes of the longest packet, with the unit that they follow from."""
+    return f"the {longest_packet(unit)} bytes that unit {unit} allows"
+
+
+@functools.cache
+def refusals(unit):
+    """Answers of a call that was refused, by an end of this transmission unit."""
+    return {
+        10: "the packet is shorter than 5 bytes",
+        11: f"the packet is longer than {longest_words(unit)}",
+        12: "the version is not 1",
+        13: "the destination is not our EID",
+        14: "TO is 0",
+        15: "the first byte is not 84h, or ROR is 1",
+        16: f"EOM 0, and the payload is not {unit} bytes",
+        17: "EOM 1, and the payload is below 8 bytes",
+        18: "a control primitive that is not one packet of 12 payload bytes",
+        19: "the integrity check is wrong",
+        20: "a command whose slot is not Idle",
+        21: "no slot is in Receive with this source and tag",
+        22: "out of sequence",
+        23: "the total is above 4,224 bytes",
+        30: "no such slot",
+        31: "the slot is not in Process, or its response is there",
+        32: "the ticket is not the slot's present one",
+        33: "taken already",
+        34: "not taken",
+        35: "the body has not 4 to 4,216 bytes",
+        36: f"the buffer is below {longest_packet(unit)} bytes",
+        37: "the slot is not in Receive, or its pause flag is set",
+        38: "the EID is not 8 to 254",
+        39: "the unit is not 64 to 250",
+        40: "a store has not 4,224 bytes",
+    }
+
+
+REFUSALS = refusals(BASE_UNIT)          # those of a log, whose unit is 64
 
 # The flag bit that a refusal sets
 REFUSAL_FLAG = {11: 6, 12: 7, 13: 8, 14: 12, 16: 9, 19: 4, 20: 3, 21: 10, 22: 11}
@@ -50,10 +65,10 @@ FLAGS = {
     3: "a command came while the slot was not Idle",
     4: "integrity check wrong",
     5: "timeout while gathering",
-    6: "packet longer than 68 bytes",
+    6: "packet too long",
     7: "version not 1",
     8: "destination not our EID",
-    9: "payload not 64 bytes where more was to come",
+    9: "payload not full where more was to come",
     10: "packet of no assembly",
     11: "out of sequence",
     12: "TO was 0",

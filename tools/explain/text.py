@@ -116,5 +116,5 @@ def slot_of(view, slot):
     if isinstance(job, Receive):
         found["gathered"] = job.length
     if isinstance(job, (Answered, Transmit)):
-        found["packets"], found["sent"] = packets_of(job)
+        found["packets"], found["sent"] = packets_of(view, slot)
     return found

@@ -1,11 +1,12 @@
 """An event in words: the record, its answer with the ground, what else it did, and the slots afterwards."""
 from second.endpoint import Answered, Receive, Transmit
 from second.log import COMPLETE, PACKET, POLL, RESET, TAKE, TIMEOUT
-from second.wire import ABORT, CONTROL, GET_STATE, PAUSE, PAYLOAD, REPLAY, RESUME, crc32c, error
+from second.wire import ABORT, CONTROL, GET_STATE, PAUSE, REPLAY, RESUME, crc32c, error
 
 from .following import HEADER, REQUEST, is_lost, is_paused, left_for_idle, packets_of
-from .names import (ABORTED, DONE, FLAGS, INVALID_PARAMETER, KINDS, MESSAGES, OPCODES, PRIMITIVES, REFUSAL_FLAG, REFUSALS,
-                    STATE_NAMES, STATES, STATUS, count, field_at, flags_set, listed, number)
+from .names import (ABORTED, DONE, FLAGS, INVALID_PARAMETER, KINDS, MESSAGES, OPCODES, PRIMITIVES,
+                    REFUSAL_FLAG, STATE_NAMES, STATES, STATUS, count, field_at, flags_set, listed,
+                    longest_words, number, refusals)
 
 
 # The record
@@ -94,7 +95,7 @@ def answer_words(event):
     if event.tag is None:
         return f"bad: {event.record.fault}"
     if event.refused:
-        return f"{event.answer}, {REFUSALS[event.answer] if event.differs else ground(event)}"
+        return f"{event.answer}, {plain_refusal(event) if event.differs else ground(event)}"
     if event.sent:
         return f"1, sends a {packet_words(event.sent, event.fields)[0]}; {sent_words(event)}"
     return f"{event.answer}, {done_words(event)}"
@@ -129,7 +130,7 @@ def taken_words(event, plain):
 
 
 def completed_words(event, plain):
-    packets, _ = packets_of(event.after.jobs[event.named])
+    packets, _ = packets_of(event.after, event.named)
     return f"{plain}: {ticket_words(event)}; a response of {count(packets, 'packet')}"
 
 
@@ -152,7 +153,20 @@ def silence_words(event, plain):
 
 def ground(event):
     """Why a record was refused; where one of several grounds can be it, which."""
-    return GROUNDS[event.answer](event) if event.answer in GROUNDS else REFUSALS[event.answer]
+    return GROUNDS.get(event.answer, plain_refusal)(event)
+
+
+def plain_refusal(event):
+    """What the number of a refusal means, without a look at packet and slots."""
+    return refusals(event.before.unit)[event.answer]
+
+
+def ground_long(event):
+    return f"the packet has {count(len(event.body), 'byte')}, more than {longest_words(event.before.unit)}"
+
+
+def ground_not_full(event):
+    return f"EOM 0, and the payload is {count(len(event.payload), 'byte')} and not {event.before.unit}"
 
 
 def ground_shape(event):
@@ -216,11 +230,11 @@ def in_state(state):
 
 GROUNDS = {
     10: lambda event: f"the packet has {count(len(event.body), 'byte')}, fewer than 5",
-    11: lambda event: f"the packet has {count(len(event.body), 'byte')}, more than 68",
+    11: ground_long,
     12: lambda event: f"the version is {event.fields.version} and not 1",
     13: lambda event: f"the destination is EID {event.fields.destination} and not ours, {event.eid}",
     15: ground_shape,
-    16: lambda event: f"EOM 0, and the payload is {count(len(event.payload), 'byte')} and not {PAYLOAD}",
+    16: ground_not_full,
     17: lambda event: f"EOM 1, and the payload is {count(len(event.payload), 'byte')}, below 8",
     18: ground_control,
     19: ground_check,
@@ -256,7 +270,7 @@ def sent_words(event):
     if event.head and event.head.nmimt == CONTROL:
         asked = event.primitive
         return f"the reply to {primitive_name(asked)} of record {asked.record}: {reply_words(asked)}"
-    packets, sent = packets_of(event.before.jobs[event.named])
+    packets, sent = packets_of(event.before, event.named)
     part = f"packet {sent + 1} of {packets} of "
     again = f", sent again by the Replay of record {event.replays[event.named]}" if event.named in event.replays else ""
     if not event.fields.som:
@@ -403,7 +417,7 @@ def slot_words(view, slot):
     if isinstance(job, Receive):
         words.append(f"{count(job.length, 'byte')} from EID {job.who[0]} under tag {job.who[1]}")
     elif isinstance(job, (Answered, Transmit)):
-        packets, sent = packets_of(job)
+        packets, sent = packets_of(view, slot)
         words.append(f"{sent} of {packets} packets sent to EID {job.who[0]} under tag {job.who[1]}")
     elif view.held[slot]:
         words.append(held_words(view.held[slot]))

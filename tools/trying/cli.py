@@ -33,6 +33,8 @@ Both ends, with packets that go from one to the other:
   deliver endpoint              which the endpoint receives; then take, complete and polls as above
   deliver requester             the packets that polls handed out are gathered
 
+Both have the transmission unit 64. setup 8 unit 250 and requester setup 9 unit 250 give them a larger one.
+
 docs/TRY.md walks through all of it. The answers are those of the proved program mi_calls, which is proved and
 built first where a source has changed. A script is a test by its lines with expect. The status is 0 if all
 was done, 1 if something was not as expected or failed, and 2 for a line or a command line that can't be read;
@@ -106,7 +108,7 @@ def known_behind(words):
 
 # Words that can follow beside options
 MORE = {"control": tuple(PRIMITIVES), "complete": ("taken", *PATTERNS), "packet": tuple(PATTERNS),
-        "expect": (*EXPECTATIONS, *STATES), "requester primitive": tuple(PRIMITIVES),
+        "expect": (*EXPECTATIONS, *STATES, *RECEIVE), "requester primitive": tuple(PRIMITIVES),
         "requester packet": tuple(PATTERNS), "deliver": tuple(RECEIVE)}
 
 

@@ -20,7 +20,8 @@ def read_options(words, table):
     while words:
         name = words.next("an option")
         if name not in table:
-            raise LineError(f"expected one of {', '.join(table)}, and there is {name!r}")
+            expected = f"{'one of ' if len(table) > 1 else ''}{', '.join(table)}"
+            raise LineError(f"expected {expected}, and there is {name!r}")
         if name in found:
             raise LineError(f"expected {name} once, and it is there twice")
         found[name] = read_value(words, name, table[name].given)

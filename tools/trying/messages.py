@@ -1,14 +1,17 @@
 """Commands and control primitives: the options of their lines, and the packets that carry them."""
-from records import FULL, command, control, damaged, packet
+from explain.following import HEADER
+from records import command, control, damaged, packet
 from second.wire import ABORT, ADMIN, GET_STATE, MI, PAUSE, PCIE, REPLAY, RESUME
+from units import parts
 
 from .forms import option, read_options
-from .values import LineError, number_of
+from .values import LONGEST, LineError, number_of
 
 KINDS = {"mi": MI, "admin": ADMIN, "pcie": PCIE}
 PRIMITIVES = {"pause": PAUSE, "resume": RESUME, "abort": ABORT, "get-state": GET_STATE, "replay": REPLAY}
 ANY_PRIMITIVE = "|".join((*PRIMITIVES, "OPCODE"))         # in the usage of a line
 LONGEST_COMMAND = 8192
+LONGEST_PAYLOAD = LONGEST - HEADER                        # of a packet that a record can have
 
 # What a packet carries; both kinds of lines have these
 PACKET_OPTIONS = {
@@ -17,6 +20,8 @@ PACKET_OPTIONS = {
     "mtag": option("message tag of the packets", ("a message tag", 0, 7)),
     "version": option("version in the packets' header (1 if not given)", ("a version", 0, 15)),
     "to": option("TO (1 if not given)", ("TO", 0, 1)),
+    "unit": option("payload bytes of each packet but the last (the endpoint's unit if not given)",
+                   ("a unit", 1, LONGEST_PAYLOAD)),
     "seq": option("sequence of the first packet that is sent; later ones count on", ("a sequence", 0, 3)),
     "only": option("no more than the first K packets", ("a number of packets", 1, LONGEST_COMMAND)),
     "skip": option("without the first K packets", ("a number of packets", 1, LONGEST_COMMAND)),
@@ -107,18 +112,18 @@ def cpsp_of(found):
 
 
 def cut(message, found, tag):
-    """A function from the endpoint's EID to the packets of the message, as records of a log."""
-    starts = range(0, len(message), FULL)
-    chosen = list(enumerate(starts))[:found.get("only")][found.get("skip", 0):]
-    if not chosen:
-        raise LineError(f"expected packets to send: the message has {len(starts)}, and only and skip leave none")
-    first = found.get("seq", chosen[0][0])
-
-    def packets(eid):
-        return [packet(message[start:start + FULL], som=int(place == 0 and "no-som" not in found),
-                       eom=int(place == len(starts) - 1 and "no-eom" not in found), sequence=first + place - chosen[0][0],
-                       source=found.get("from", 9), tag=tag, version=found.get("version", 1), destination=found.get("dest", eid),
+    """A function from the endpoint's EID and unit to the packets of the message, as records of a log."""
+    def packets(eid, unit):
+        payloads = parts(message, found.get("unit", unit))
+        places = range(len(payloads))[:found.get("only")][found.get("skip", 0):]
+        if not places:
+            raise LineError(f"expected packets to send: the message has {len(payloads)}, "
+                            "and only and skip leave none")
+        first = found.get("seq", places[0])
+        return [packet(payloads[place], som=int(place == 0 and "no-som" not in found),
+                       eom=int(place == len(payloads) - 1 and "no-eom" not in found),
+                       sequence=first + place - places[0], source=found.get("from", 9), tag=tag,
+                       version=found.get("version", 1), destination=found.get("dest", eid),
                        to=found.get("to", 1))
-                for place, start in chosen]
-
+                for place in places]
     return packets

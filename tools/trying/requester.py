@@ -7,6 +7,8 @@ from second.endpoint import STORE
 from second.wire import CONTROL, packet_fields
 
 from .program import Trouble
+from .setups import ANSWERS as SETUP_ANSWERS
+from .setups import left_by
 
 
 # What records say
@@ -54,7 +56,7 @@ def read_pair(text):
 
 # The answers that each call has
 ANSWERS = {
-    calls.REQUESTER_SETUP: (0, 38), calls.REQUESTER_STORE: (0,), calls.REQUESTER_AWAIT: (0, 41),
+    calls.REQUESTER_SETUP: SETUP_ANSWERS, calls.REQUESTER_STORE: (0,), calls.REQUESTER_AWAIT: (0, 41),
     calls.REQUESTER_CUT: (0, 36, 41), calls.REQUESTER_PRIMITIVE: (0, 30, 36, 41),
     calls.REQUESTER_RECEIVE: (0, 1, 2, *range(10, 24), 40),
 }
@@ -68,9 +70,9 @@ REPLY = 12                          # bytes of a control reply
 
 
 def is_call(tag, body):
-    """Whether a record is a call of the requester, with a body of a length that it can have."""
+    """Whether a record is a call of the requester, with a body that it can have."""
     least, greatest = calls.LENGTHS.get(tag, (0, 0))
-    return tag in ANSWERS and least <= len(body) <= greatest
+    return tag in ANSWERS and least <= len(body) <= greatest and not calls.is_bad(tag, body)
 
 
 # length: of a whole message or of what was written. touched: whether the buffer was, behind what was written
@@ -172,8 +174,7 @@ class Requester:
         return event
 
     def setup(self, event):
-        eid = event.body[0] if event.answer == 0 else 8
-        event.leaves = Look(eid, event.after.unit, None, None, None)
+        event.leaves = Look(*left_by(event.body, event.answer), None, None, None)
 
     def store(self, event):
         self.lent, = calls.LENGTH.unpack(event.body)

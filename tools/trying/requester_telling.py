@@ -1,15 +1,16 @@
 """Calls of the requester in words: what was called, the answer with its ground, what changed."""
-from explain import names
+from call_records import room
 from explain.following import HEADER, header_of
 from explain.names import MESSAGES, count, listed
-from explain.wording import (GROUNDS, message_words, packet_words, primitive_name, reply_words, size_words,
-                             status_given, status_words)
+from explain.wording import (GROUNDS, message_words, packet_words, plain_refusal, primitive_name, reply_words,
+                             size_words, status_given, status_words)
 from second import calls
 from second.wire import CONTROL, packet_fields
 
 from .requester import WHOLE, read_cut, read_primitive
 from .requester_words import BUFFER
-from .telling import ODD, SHORTEST, STORE, hex_words, response_lines
+from .setups import setup_called, setup_done, setup_refused
+from .telling import ODD, SHORTEST, STORE, hex_words, response_lines, unit_words
 
 GREATEST_TAG = 7
 SIZES = range(8, STORE + 1)
@@ -17,9 +18,9 @@ PRIMITIVE = 16              # bytes of a control primitive's packet
 AT_ENDS = 2                 # packets that are told at each end of many
 OF_CONTENTS = range(12, 24)             # refusals for what a packet has in it
 
-# Answers of a call that was refused; some are what they are at the endpoint.
-REFUSALS = {
-    **{number: names.REFUSALS[number] for number in (10, 11, 12, 16, 17, 19, 22, 23, 30, 38)},
+# Answers of a call that was refused: those that are what they are at the endpoint, and those that are not
+SHARED = 10, 11, 12, 16, 17, 19, 22, 23, 30, 38, 39
+OWN = {
     13: "the destination is not the requester's EID",
     14: "TO is 1",
     15: "the first byte is not 84h, or ROR is 0",
@@ -30,6 +31,7 @@ REFUSALS = {
     40: f"the store has not {STORE:,} bytes",
     41: f"the message has not 8 to {STORE:,} bytes, or the message tag is above {GREATEST_TAG}",
 }
+REFUSALS = {*SHARED, *OWN}
 
 
 def requester_lines(event):
@@ -80,7 +82,7 @@ def buffer_words(given):
 
 
 CALLED = {
-    calls.REQUESTER_SETUP: lambda event: [f"setup with EID {event.body[0]}"],
+    calls.REQUESTER_SETUP: lambda event: [setup_called(event.body)],
     calls.REQUESTER_STORE: lambda event: [f"a store of {count(event.lent, 'byte')}"],
     calls.REQUESTER_AWAIT: lambda event: [f"await {who_words(event.body)}"],
     calls.REQUESTER_CUT: cut_called,
@@ -92,10 +94,6 @@ CALLED = {
 # The answer
 
 RECEIVED = {0: "taken in, more to come", 1: "a response is complete", 2: "a control reply is there"}
-
-
-def setup_done(event):
-    return f"set up: the requester's EID is {event.after.eid}, and it awaits nothing"
 
 
 def store_done(event):
@@ -114,7 +112,7 @@ def packet_done(event):
 
 
 DONE = {
-    calls.REQUESTER_SETUP: setup_done,
+    calls.REQUESTER_SETUP: lambda event: f"{setup_done('requester', event.after)}, and it awaits nothing",
     calls.REQUESTER_STORE: store_done,
     calls.REQUESTER_AWAIT: lambda event: "awaited from here on",
     calls.REQUESTER_CUT: cut_done,
@@ -129,7 +127,7 @@ def ground(event):
     """Why a call was refused; the plain words of its number where packet and look do not show it."""
     hidden = event.is_odd or event.answer in OF_CONTENTS and not event.payload
     found = None if hidden else OWN_GROUNDS.get(event.answer) or GROUNDS.get(event.answer)
-    return found(event) if found else REFUSALS[event.answer]
+    return found(event) if found else OWN.get(event.answer) or plain_refusal(event)
 
 
 def ground_destination(event):
@@ -172,18 +170,21 @@ def ground_arguments(event):
         parts.append(f"the message has {count(size, 'byte')}, not 8 to {STORE:,}")
     if tag > GREATEST_TAG:
         parts.append(f"the message tag is {tag}, above {GREATEST_TAG}")
-    return "; ".join(parts) or REFUSALS[41]
+    return "; ".join(parts) or OWN[41]
 
 
 def ground_buffer(event):
     """The buffer against what would be written: the message, with a header for each packet."""
     if event.tag == calls.REQUESTER_CUT:
         given = read_cut(event.body)
-        size = len(given.message)
-        needed = size + HEADER * -(-size // event.before.unit)
+        needed = room(len(given.message), event.before.unit)
     else:
         given, needed = read_primitive(event.body), PRIMITIVE
     return f"the buffer has {count(given.buffer, 'byte')}, fewer than the {needed:,} that are to be written"
+
+
+def ground_setup(event):
+    return setup_refused(event.answer, event.after)
 
 
 OWN_GROUNDS = {
@@ -197,7 +198,8 @@ OWN_GROUNDS = {
     23: lambda event: f"the total would be {count(len(event.message), 'byte')}, above {STORE:,}",
     30: lambda event: f"there is no slot {read_primitive(event.body).slot}, only 0 and 1",
     36: ground_buffer,
-    38: lambda event: f"{REFUSALS[38]}; the state is the one for EID {event.after.eid}",
+    38: ground_setup,
+    39: ground_setup,
     40: lambda event: f"the store has {count(event.lent, 'byte')} and not {STORE:,}",
     41: ground_arguments,
 }
@@ -270,4 +272,4 @@ def state_words(look):
 def requester_look_lines(look, lent):
     sequence = f"; the last packet's sequence was {look.assembly.sequence}" if look.assembly else ""
     return [f"{state_words(look)}{sequence}",
-            f"packets of {look.unit} payload bytes; its store: {count(lent, 'byte')}, CRC-32C {look.check}h"]
+            f"{unit_words(look.unit)}; its store: {count(lent, 'byte')}, CRC-32C {look.check}h"]

@@ -7,12 +7,13 @@ from second.wire import packet_fields
 
 from . import messages
 from .forms import Word, option, read_options
+from .setups import SETUP_OPTIONS, read_setup
 from .values import LONGEST, LineError
 
 BYTE = 255
 NUMBER = 0xFFFFFFFF
 LENGTH = 0xFFFF
-BUFFER = 4488               # 66 packets with 4,224 bytes in them: nothing that is written is longer
+BUFFER = 4488               # 66 packets with 4,224 bytes in them: nothing that is written at any unit is longer
 LONGEST_CUT = LONGEST - calls.CUT.size
 
 # Tags, slots and lengths can be such that the requester refuses them.
@@ -46,12 +47,6 @@ DELIVER_OPTIONS = {
 RECEIVE = {"endpoint": calls.RECEIVE, "requester": calls.REQUESTER_RECEIVE}
 NONE_THERE = {"endpoint": "the last cut or primitive wrote none",
               "requester": "the last line with polls handed out none"}
-
-
-def read_setup(words):
-    eid = words.number("an EID", 0, BYTE)
-    words.end()
-    return lambda session: session.call(call_records.requester_setup(eid))
 
 
 def read_store(words):
@@ -104,10 +99,15 @@ def read_look(words):
 
 # From one end to the other
 
-def read_deliver(words):
+def read_end(words):
     end = words.next("endpoint or requester")
     if end not in RECEIVE:
         raise LineError(f"expected endpoint or requester, and there is {end!r}")
+    return end
+
+
+def read_deliver(words):
+    end = read_end(words)
     found = read_options(words, DELIVER_OPTIONS)
     return lambda session: session.call(*(record(RECEIVE[end], packet)
                                           for packet in chosen(session.packets[end], end, found)))
@@ -134,7 +134,8 @@ def word(usage, meaning, read, options=None):
 
 
 REQUESTER = dict((
-    word("requester setup EID", "the requester anew; the EID is 8 to 254, and it awaits nothing", read_setup),
+    word("requester setup EID [unit UNIT]", "the requester anew; the EID is 8 to 254, and it awaits nothing",
+         read_setup(call_records.requester_setup), SETUP_OPTIONS),
     word("requester store LENGTH", "lends it a store of this length from here on (right is 4224)",
          read_store),
     word("requester await SOURCE TAG",

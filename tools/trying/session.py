@@ -8,6 +8,7 @@ from second import calls
 from . import requester
 from .program import Trouble
 from .requester_telling import requester_lines, requester_look_lines, state_words, who_words
+from .setups import ANSWERS as SETUP_ANSWERS
 from .telling import About, event_lines, look_lines, read_lines, response_lines, setup_lines, stores_lines
 from .values import LineError
 from .watching import KINDS, Call, Joiner, Watcher
@@ -45,6 +46,11 @@ class Session:
     @property
     def eid(self):
         return self.watcher.endpoint.eid
+
+    @property
+    def unit(self):
+        """The endpoint's transmission unit."""
+        return self.watcher.endpoint.unit
 
     @property
     def requester(self):
@@ -140,15 +146,21 @@ class Session:
         self.answers.append(int(words[0]) if words[0].isdigit() else None)
         if call.tag != calls.LOOK:
             self.watcher.look_at(self.printed(LOOK))
-        if call.tag == calls.SETUP:
-            self.watcher.forget()
-            return setup_lines(call.body[0], self.line, self.watcher.state)
+        if call.tag == calls.SETUP and not calls.is_bad(*call):
+            return self.set_up(call)
         if call.tag == calls.STORES:
             self.lent = calls.TWO_LENGTHS.unpack(call.body)
             return stores_lines(self.lent, self.line)
         if call.tag == calls.READ:
             return read_lines(calls.NUMBER.unpack(call.body)[0], bytes.fromhex(words[-1]) if words[-1] != "-" else b"")
         return [f"record with tag {call.tag}", f"-> {self.line}"]
+
+    def set_up(self, call):
+        """A setup of the endpoint."""
+        if self.line not in map(str, SETUP_ANSWERS):
+            raise Trouble(f"record {self.number}: {self.line!r} is no line for this call")
+        self.watcher.forget()
+        return setup_lines(call.body, self.answers[-1], self.watcher.endpoint)
 
     def printed(self, record):
         """The program's line for a record."""
@@ -229,6 +241,10 @@ class Session:
     def expect_gathered(self, length):
         found = self.requester.look.assembly
         self.compare("the gathered length", "", str(length), str(found.length if found else 0))
+
+    def expect_unit(self, end, unit):
+        found = self.unit if end == "endpoint" else self.requester.look.unit
+        self.compare(f"the unit of the {end}", "", str(unit), str(found))
 
     def expect_line(self, line):
         self.compare("the line", "", line, self.line or "none")

@@ -39,7 +39,7 @@ def read_state(line, before=None):
 
 
 def held(fields, before):
-    endpoint = Endpoint(int(fields["eid"]))
+    endpoint = Endpoint(int(fields["eid"]), int(fields["unit"]))
     endpoint.flags = int(fields["flags"], 16)
     endpoint.last_was_control = fields["last"] == "1"
     endpoint.reply = read_reply(fields["reply"])

@@ -2,17 +2,18 @@
 from collections import namedtuple
 
 from explain.following import HEADER
-from explain.names import FLAGS, MESSAGES, REFUSALS, count, listed, number
+from explain.names import FLAGS, MESSAGES, count, listed, number
 from explain.wording import (answer_words, effect_words, message_words, packet_words, record_words, slot_words, status_given,
                              status_words)
 from second.log import COMPLETE, PACKET, POLL
-from second.wire import CONTROL, is_sealed, message_header
+from second.wire import CONTROL, is_sealed, longest_packet, message_header
 
+from .setups import left_by, setup_called, setup_done, setup_refused
 from .watching import WRONG_STORES
 
 SHOWN = 20                  # bytes that are shown of a body
 SHORT_BUFFER = 36
-STORE, BUFFER = 4224, 68
+STORE = 4224
 SHORTEST = 12               # bytes of the shortest response: header, status with three bytes, check
 ODD = "!! the answer does not go with what a look shows"
 
@@ -41,7 +42,7 @@ def called_words(event, about):
         body = event.body[1:]
         return [f"complete of slot {event.named} with ticket {number(event.ticket)} and a body of {count(len(body), 'byte')}"
                 f"{status_given(body)}"]
-    if event.tag == POLL and about.buffer != BUFFER:
+    if event.tag == POLL and about.buffer != longest_packet(event.before.unit):
         return [f"poll with a buffer of {count(about.buffer, 'byte')}"]
     return record_words(event)
 
@@ -52,7 +53,8 @@ def answer(event, about):
         wrong = [f"store {slot} has {count(length, 'byte')}" for slot, length in enumerate(about.lent) if length != STORE]
         return f"{WRONG_STORES}, a store has not {STORE:,} bytes: {listed(wrong)}"
     if event.answer == SHORT_BUFFER:
-        return f"{SHORT_BUFFER}, the buffer has {count(about.buffer, 'byte')}, fewer than {BUFFER}"
+        longest = longest_packet(event.before.unit)
+        return f"{SHORT_BUFFER}, the buffer has {count(about.buffer, 'byte')}, fewer than {longest}"
     if event.sent and event.head and event.head.nmimt == CONTROL and event.primitive is None:
         return f"1, sends a {packet_words(event.sent, event.fields)[0]}; a control reply"
     if event.sent and event.differs:
@@ -81,10 +83,12 @@ def store_words(event, before, after):
 
 # Other calls
 
-def setup_lines(eid, line, after):
-    words = f"set up: the endpoint's EID is {after.endpoint.eid}, all else is zero" if line == "0" else (
-        f"{REFUSALS[38]}; the state is the one for EID {after.endpoint.eid}")
-    return [f"setup with EID {eid}", f"-> {line}, {words}"]
+def setup_lines(body, answer, endpoint):
+    """A setup, which `endpoint` came of."""
+    done = f"{setup_done('endpoint', endpoint)}, all else is zero"
+    words = done if answer == 0 else setup_refused(answer, endpoint)
+    odd = [] if (endpoint.eid, endpoint.unit) == left_by(body, answer) else [ODD]
+    return [setup_called(body), f"-> {answer}, {words}", *odd]
 
 
 def stores_lines(lent, line):
@@ -121,10 +125,14 @@ def look_lines(state, view, lent):
     word = int(fields["flags"], 16)
     flags = [f"bit {bit} ({FLAGS[bit]})" for bit in FLAGS if word >> bit & 1]
     last = "a control reply" if fields["last"] == "1" else "no control reply"
-    return [f"EID {fields['eid']}, packets of {fields['unit']} payload bytes, flags {fields['flags']}h: "
+    return [f"EID {fields['eid']}, {unit_words(fields['unit'])}, flags {fields['flags']}h: "
             f"{listed(flags) or 'none is set'}",
             f"slot {fields['turn']} goes first when no response is begun; the last packet handed out was {last}",
             reply_line(view.reply), *(slot_line(fields, view, slot, lent[slot]) for slot in (0, 1))]
+
+
+def unit_words(unit):
+    return f"unit {unit} (payload bytes of a full packet)"
 
 
 def reply_line(reply):

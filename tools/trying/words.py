@@ -4,10 +4,12 @@ A reader takes the words of a line and gives a function of the session, so that 
 """
 import call_records
 from second import calls
+from second.wire import longest_packet
 
 from . import messages
 from .forms import Word, option_usage
-from .requester_words import DELIVER, LENGTH, NUMBER, REQUESTER
+from .requester_words import DELIVER, LENGTH, NUMBER, REQUESTER, read_end
+from .setups import SETUP_OPTIONS, read_setup
 from .values import LineError, Words, number_of
 
 # The states of a slot as `expect` names them, and as the second program does
@@ -24,12 +26,6 @@ def on_slot(record):
     return read
 
 
-def read_setup(words):
-    eid = words.number("an EID", 0, 255)
-    words.end()
-    return lambda session: session.call(call_records.setup(eid))
-
-
 def read_stores(words):
     lengths = [words.number(f"the length of store {slot}", 0, calls.MEMORY) for slot in (0, 1)]
     words.end()
@@ -40,7 +36,7 @@ def read_message(read):
     """A reader for a whole message, whose packets are sent one after the other."""
     def reader(words):
         packets = read(words)
-        return lambda session: session.call(*call_records.receive_all(packets(session.eid)))
+        return lambda session: session.call(*call_records.receive_all(packets(session.eid, session.unit)))
     return reader
 
 
@@ -71,20 +67,14 @@ def read_ticket(words):
     return ticket
 
 
-def read_buffer(words):
-    length = words.number("a buffer's length", 0, LENGTH) if words else 68
-    words.end()
-    return length
-
-
-def read_poll(words):
-    length = read_buffer(words)
-    return lambda session: session.call(call_records.poll(length))
-
-
-def read_polls(words):
-    length = read_buffer(words)
-    return lambda session: session.polls(call_records.poll(length))
+def read_polling(act):
+    """A reader for polls; without a length the buffer has that of the endpoint's full packet."""
+    def read(words):
+        length = words.number("a buffer's length", 0, LENGTH) if words else None
+        words.end()
+        return lambda session: act(session, call_records.poll(
+            longest_packet(session.unit) if length is None else length))
+    return read
 
 
 def read_alone(act):
@@ -96,7 +86,7 @@ def read_alone(act):
 
 
 def read_expect(words):
-    form = words.next("an answer's number, slot, body, line, awaits or gathered")
+    form = words.next("an answer's number, slot, body, line, awaits, gathered or unit")
     if form in EXPECTATIONS:
         return EXPECTATIONS[form](words)
     words.words.insert(0, form)
@@ -143,8 +133,15 @@ def read_expect_gathered(words):
     return lambda session: session.expect_gathered(length)
 
 
+def read_expect_unit(words):
+    end = read_end(words)
+    unit = words.number("a unit", 0, LENGTH)
+    words.end()
+    return lambda session: session.expect_unit(end, unit)
+
+
 EXPECTATIONS = {"slot": read_expect_slot, "body": read_expect_body, "line": read_expect_line,
-                "awaits": read_expect_awaits, "gathered": read_expect_gathered}
+                "awaits": read_expect_awaits, "gathered": read_expect_gathered, "unit": read_expect_unit}
 
 
 def read_help(words):
@@ -155,7 +152,8 @@ def read_help(words):
 
 
 WORDS = {
-    "setup": Word("setup EID", "a new state; the EID is 8 to 254, and commands then go to it", read_setup),
+    "setup": Word("setup EID [unit UNIT]", "a new state; the EID is 8 to 254, and commands then go to it",
+                  read_setup(call_records.setup), SETUP_OPTIONS),
     "command": Word("command [slot N] mi|admin|pcie LENGTH [OPTION ..]",
                     "a whole command, sealed with its integrity check and cut into packets, each of them received",
                     read_message(messages.read_command), messages.COMMAND_OPTIONS),
@@ -167,8 +165,11 @@ WORDS = {
     "complete": Word("complete SLOT TICKET BYTES",
                      "the response's body, from its status on; in place of a ticket, taken: the one last taken there (else 0)",
                      read_complete),
-    "poll": Word("poll [LENGTH]", "asks for one packet with a buffer of this length (68 if not given)", read_poll),
-    "polls": Word("polls [LENGTH]", "polls until nothing comes", read_polls),
+    "poll": Word("poll [LENGTH]",
+                 "asks for one packet with a buffer of this length (that of a full packet if not given)",
+                 read_polling(lambda session, record: session.call(record))),
+    "polls": Word("polls [LENGTH]", "polls until nothing comes",
+                  read_polling(lambda session, record: session.polls(record))),
     "timeout": Word("timeout SLOT", "the slot's requester was too slow", on_slot(call_records.timeout)),
     "reset": Word("reset", "both slots Idle; ticket counts are kept", read_alone(lambda session: session.call(call_records.RESET))),
     "stores": Word("stores LENGTH LENGTH", "lends stores of these lengths from here on (right are 4224 4224)", read_stores),
@@ -177,13 +178,14 @@ WORDS = {
     **REQUESTER,
     "deliver": DELIVER,
     "expect": Word("expect NUMBER [NUMBER ..] | slot N STATE | body BYTES | line LINE | awaits WHOM |"
-                   " gathered N",
+                   " gathered N | unit END N",
                    "fails if the last answer was another (several numbers: the answers of the last line that called, in order);\n"
                    f"    if the slot is in another state than STATE ({', '.join(STATES)});\n"
                    "    if the last whole response or control reply has another body;\n"
                    "    if the program's last line was another;\n"
                    "    if the requester awaits another than WHOM (SOURCE TAG, or nothing);\n"
-                   "    or if it has gathered another number of bytes",
+                   "    if it has gathered another number of bytes;\n"
+                   "    or if END, the endpoint or the requester, has another unit",
                    read_expect),
     "help": Word("help [WORD]", "this list, or all about a word; help requester: all of the requester's",
                  read_help),

@@ -6,6 +6,7 @@ use machine::Phase;
 use machine::Slot;
 use machine::TakeAnswer;
 use machine::Ticket;
+use machine::sizes::LEAST_UNIT;
 use machine::sizes::STORE_SIZE;
 
 // The last ticket before the count goes back to 0.
@@ -55,7 +56,7 @@ fn vectors() {
 fn before_wrap() -> Endpoint
     ensures { λ r. ⌜ Valid r ⌝ }
 {
-    let done = endpoint::setup(8);
+    let done = endpoint::setup(8, LEAST_UNIT);
     let mut anew = done.endpoint;
     anew.slots[0] = Slot {
         ticket: Ticket(LAST_TICKET),

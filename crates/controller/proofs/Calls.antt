@@ -1,25 +1,29 @@
 -- Setup, awaiting, cutting and building a control primitive: what each answers, and what it leaves.
 -- Assumes nothing.
-use Prim.Native.Nat.{ℕ, min, _+_, _-_, _*_, _/_, _%_, _≤_, _<_}
+use Prim.Native.Nat.{ℕ, _+_, _/_, _%_, _≤_}
 use mathlib.Core.Path.{_≡_, refl, sym, ap, _∙_}
 use mathlib.Core.Bool.{Bool, true, false, not, _||_}
-use mathlib.Core.List.{List, [], _∷_}
+use mathlib.Core.List.{List, [], _∷_, _++_}
 use native.Mathlib.Nat.{mod-eq-of-lt}
 use native.Mathlib.Omega.{arith}
-use lib.Dec.{eqb, leb, ltb, lit<}
+use lib.Dec.{eqb, ltb}
 use lib.ListN.{length, take, drop}
-use lib.Seq.{take-at, drop-at, take-all}
-use borrow.Author.Tests.{ltb-true, ltb-false, lt-leb, le-leb, lt-ltb, le-ltb}
+use lib.Seq.{take-at, drop-at}
+use borrow.Author.Tests.{eqb-true, ltb-true, ltb-false, lt-ltb, le-ltb}
 use Rattle.lent.specs.Choice.{if_then_else_}
 use Rattle.lent.proofs.Choice.{if-ind, false-true, row}
 use Rattle.mctp.specs.Cut.{packet, cut, endToEnd, pieces}
 use Rattle.mctp.specs.declared.Route.{Route}
-use Rattle.mctp.proofs.Ends.{packet-length, cut-length, pieces-cut}
+use Rattle.mctp.specs.Setup.{least-unit, setupRefusal, setupNumber}
+use Rattle.mctp.specs.Header.{headerBytes}
+use Rattle.mctp.proofs.Laws.{setup-numbers, one-packet}
+use Rattle.mctp.proofs.Ends.{cut-length, pieces-cut}
 use Rattle.nvme_mi.specs.Check.{withCheck}
 use Rattle.nvme_mi.proofs.Laws.{length-withCheck}
+use Rattle.machine.specs.History.{overUnit}
 use Rattle.controller.specs.Await.{wrongTag, wasSetUp, nowAwaits}
 use Rattle.controller.specs.Send.{Sent, sentTo, written, wrongSize, cutTo, controlRequest, primitiveTo}
-use Rattle.controller.specs.Grounds.{SetUp, SetupSo, Awaits, AwaitsSo, countOf, cutNumbers, Wrote, CutSo, primitiveNumbers, primitivePacket, PrimitiveSo}
+use Rattle.controller.specs.Grounds.{SetUp, SetupSo, Awaits, AwaitsSo, sizeOf, cutNumbers, Wrote, CutSo, primitiveNumbers, primitivePacket, PrimitiveSo}
 use Rattle.controller.specs.Types.{Primitive}
 use Rattle.controller.specs.declared.SendAnswer.the-variants.{Refused}
 
@@ -27,27 +31,23 @@ use Rattle.controller.specs.declared.SendAnswer.the-variants.{Refused}
 
 pub setup-so : SetupSo
 unfolding wasSetUp
-setup-so eid = by (ltb eid 8) refl (ltb 254 eid) refl
+setup-so eid unit = by (eqb (setupNumber eid unit) 0) refl (ap (λ (n : ℕ). eqb n 0) (setup-numbers eid unit))
   where
-    by : (a : Bool) → ltb eid 8 ≡ a → (b : Bool) → ltb 254 eid ≡ b → SetUp eid
-    by true e b f =
-        let x : leb 8 eid ≡ false = lt-leb 8 eid (ltb-true eid 8 e) in
-        unfold wasSetUp in (record { number-is = rw (e, x) refl; eid-is = rw (e, x) refl; key-is = rw e refl })
-    by false e true f =
-        let x : leb 8 eid ≡ true = le-leb 8 eid (ltb-false eid 8 e) in
-        let y : leb eid 254 ≡ false = lt-leb eid 254 (ltb-true 254 eid f) in
-        unfold wasSetUp in (record { number-is = rw (e, f, x, y) refl; eid-is = rw (e, f, x, y) refl; key-is = rw (e, f) refl })
-    by false e false f =
-        let x : leb 8 eid ≡ true = le-leb 8 eid (ltb-false eid 8 e) in
-        let y : leb eid 254 ≡ true = le-leb eid 254 (ltb-false 254 eid f) in
-        unfold wasSetUp in (record { number-is = rw (e, f, x, y) refl; eid-is = rw (e, f, x, y) refl; key-is = rw (e, f) refl })
+    by : (b : Bool) → eqb (setupNumber eid unit) 0 ≡ b → eqb (setupRefusal eid unit) 0 ≡ eqb (setupNumber eid unit) 0 → SetUp eid unit
+    by true e q =
+        let x : eqb (setupRefusal eid unit) 0 ≡ true = q ∙ e in
+        let n : setupNumber eid unit ≡ 0 = eqb-true (setupNumber eid unit) 0 e in
+        unfold wasSetUp in (record { number-is = rw x (sym n); eid-is = rw (e, x) refl; unit-is = rw (e, x) refl; key-is = rw x refl })
+    by false e q =
+        let x : eqb (setupRefusal eid unit) 0 ≡ false = q ∙ e in
+        unfold wasSetUp in (record { number-is = rw x (setup-numbers eid unit); eid-is = rw (e, x) refl; unit-is = rw (e, x) refl; key-is = rw x refl })
 
 pub awaits-so : AwaitsSo
 unfolding nowAwaits
 awaits-so r source tag =
     if-ind (Awaits r source tag) (wrongTag tag)
-    (λ high. record { number-is = rw high refl; eid-is = refl; key-is = rw high refl; assembly-is = rw high refl })
-    (λ low. record { number-is = rw low refl; eid-is = refl; key-is = rw low refl; assembly-is = rw low refl })
+    (λ high. record { number-is = rw high refl; eid-is = refl; unit-is = refl; key-is = rw high refl; assembly-is = rw high refl })
+    (λ low. record { number-is = rw low refl; eid-is = refl; unit-is = refl; key-is = rw low refl; assembly-is = rw low refl })
 
 -- ---- writing
 
@@ -84,7 +84,7 @@ front-so bytes buffer size e =
 
 pub cut-so : CutSo
 unfolding cutTo
-cut-so r destination tag m buffer =
+cut-so r destination tag m buffer v =
     let c = by in
     record { wrote = c .0; packets-are = c .1 }
   where
@@ -92,26 +92,26 @@ cut-so r destination tag m buffer =
     route = record { destination = destination; source = r .eid; to = true; tag = tag }
 
     size : ℕ
-    size = length m + 4 * countOf (length m)
+    size = sizeOf (r .unit) m
 
     Cuts : Sent → ℕ × List ℕ → Type 0
-    Cuts x n = Wrote n size buffer x × (eqb (n .0) 0 ≡ true → pieces 68 (countOf (length m)) (take size (x .buffer)) ≡ cut 64 route m)
+    Cuts x n = Wrote n size buffer x × (eqb (n .0) 0 ≡ true → pieces (r .unit + 4) (overUnit (r .unit) (length m)) (take size (x .buffer)) ≡ cut (r .unit) route m)
 
-    bytes : length (endToEnd (cut 64 route m)) ≡ size
-    bytes = cut-length 64 route m (lit< tt)
+    bytes : length (endToEnd (cut (r .unit) route m)) ≡ size
+    bytes = cut-length (r .unit) route m (omega (arith, v .unit-least))
 
-    by : Cuts (cutTo r destination tag m buffer) (cutNumbers tag m buffer)
+    by : Cuts (cutTo r destination tag m buffer) (cutNumbers (r .unit) tag m buffer)
     by =
         row Cuts (wrongSize (length m) || wrongTag tag) (ltb (length m) 8 || ltb 4224 (length m) || ltb 7 tag) refl
         (λ _. (untouched 41 size buffer, λ none. false-true none))
         (λ _. (
-          written-so (endToEnd (cut 64 route m)) buffer size bytes,
-          λ done. ap (pieces 68 (countOf (length m))) (front-so (endToEnd (cut 64 route m)) buffer size bytes done) ∙ pieces-cut 64 route m (lit< tt),
+          written-so (endToEnd (cut (r .unit) route m)) buffer size bytes,
+          λ done. ap (pieces (r .unit + 4) (overUnit (r .unit) (length m))) (front-so (endToEnd (cut (r .unit) route m)) buffer size bytes done) ∙ pieces-cut (r .unit) route m (omega (arith, v .unit-least)),
         ))
 
 -- ---- a control primitive
 
-request-length : (p : Primitive) → length (controlRequest p) ≡ 12
+pub request-length : (p : Primitive) → length (controlRequest p) ≡ 12
 unfolding controlRequest
 request-length p = length-withCheck (0x84 ∷ p .slot % 2 ∷ 0 ∷ 0 ∷ p .opcode ∷ p .tag ∷ p .cpsp % 256 ∷ p .cpsp / 256 % 256 ∷ []) ∙ refl
 
@@ -122,16 +122,20 @@ request-is p s =
     ap (λ (x : ℕ). withCheck (0x84 ∷ x ∷ 0 ∷ 0 ∷ p .opcode ∷ p .tag ∷ p .cpsp % 256 ∷ p .cpsp / 256 % 256 ∷ [])) slot-same
 
 -- its packet
-packet-bytes : (route : Route) (p : Primitive) → length (packet 64 route (controlRequest p) 0) ≡ 16
-packet-bytes route p = packet-length 64 route (controlRequest p) 0 ∙ ap (λ (n : ℕ). 4 + min 64 (n - 64 * 0)) (request-length p)
+request-packet : (unit : ℕ) (route : Route) (p : Primitive) → least-unit ≤ unit
+    → packet unit route (controlRequest p) 0 ≡ headerBytes (route .destination) (route .source) true true 0 (route .to) (route .tag) ++ controlRequest p
+request-packet unit route p least =
+    let n = request-length p in
+    one-packet unit route (controlRequest p) (omega (arith, n)) (omega (arith, n, least))
 
-packet-so : (eid destination tag : ℕ) (p : Primitive) → tag ≤ 7 → p .slot ≤ 1
-    → packet 64 (record { destination = destination; source = eid; to = true; tag = tag }) (controlRequest p) 0 ≡ primitivePacket eid destination tag p
-unfolding packet
-packet-so eid destination tag p t s =
+pub packet-bytes : (unit : ℕ) (route : Route) (p : Primitive) → least-unit ≤ unit → length (packet unit route (controlRequest p) 0) ≡ 16
+packet-bytes unit route p least = let n = request-length p in rw (request-packet unit route p least) (omega arith)
+
+packet-so : (eid unit destination tag : ℕ) (p : Primitive) → least-unit ≤ unit → tag ≤ 7 → p .slot ≤ 1
+    → packet unit (record { destination = destination; source = eid; to = true; tag = tag }) (controlRequest p) 0 ≡ primitivePacket eid destination tag p
+packet-so eid unit destination tag p least t s =
     let tag-same : tag % 8 ≡ tag = mod-eq-of-lt (omega arith) in
-    let all : take 64 (drop (64 * 0) (controlRequest p)) ≡ controlRequest p = take-all 64 (controlRequest p) (rw (request-length p) (omega arith)) in
-    rw (all, request-length p, tag-same, request-is p s) refl
+    request-packet unit (record { destination = destination; source = eid; to = true; tag = tag }) p least ∙ rw (tag-same, request-is p s) refl
 
 -- the slot's test, either way
 slot-test : (i : ℕ) → not (ltb i 2) ≡ ltb 1 i
@@ -143,7 +147,7 @@ slot-test i = by (ltb 1 i) refl
 
 pub primitive-so : PrimitiveSo
 unfolding primitiveTo
-primitive-so r destination tag p buffer =
+primitive-so r destination tag p buffer v =
     let c = by in
     record { wrote = c .0; packet-is = c .1 }
   where
@@ -159,7 +163,7 @@ primitive-so r destination tag p buffer =
         (λ low.
         row Builds (not (ltb (p .slot) 2)) (ltb 1 (p .slot)) (slot-test (p .slot)) (λ _. (untouched 30 16 buffer, λ none. false-true none))
         (λ one. (
-          written-so (packet 64 route (controlRequest p) 0) buffer 16 (packet-bytes route p),
+          written-so (packet (r .unit) route (controlRequest p) 0) buffer 16 (packet-bytes (r .unit) route p (v .unit-least)),
           λ done.
-              front-so (packet 64 route (controlRequest p) 0) buffer 16 (packet-bytes route p) done ∙ packet-so (r .eid) destination tag p (ltb-false 7 tag low) (ltb-false 1 (p .slot) one),
+              front-so (packet (r .unit) route (controlRequest p) 0) buffer 16 (packet-bytes (r .unit) route p (v .unit-least)) done ∙ packet-so (r .eid) (r .unit) destination tag p (v .unit-least) (ltb-false 7 tag low) (ltb-false 1 (p .slot) one),
         )))

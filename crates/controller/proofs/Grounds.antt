@@ -23,7 +23,7 @@ use Rattle.opening.specs.declared.Joined.{Joined}
 use Rattle.machine.specs.History.{hasSom, sourceOf, messageTagOf}
 use Rattle.machine.specs.Grounds.{hasEom, sequenceOf}
 use Rattle.machine.specs.Receive.{isFrom, assembly}
-use Rattle.machine.specs.Wire.{unit, store-size, outward}
+use Rattle.machine.specs.Wire.{store-size, outward}
 use Rattle.machine.specs.declared.Assembly.{Assembly}
 use Rattle.machine.proofs.Places.{take-joined}
 use Rattle.controller.specs.State.{awaits, unassembled, Side, side, Outcome, AwaitingFacts, Valid}
@@ -86,11 +86,12 @@ module _ (s : Side) (p : List ℕ) where
   -- that changes nothing
   unchanged : (n : ℕ) → eqb n 0 ≡ false → isWhole n ≡ false → endsAssembly s p n ≡ false → isStored p n ≡ false → Left s p (n, []) (refused s n)
   unchanged n zero whole ends stored =
-      record { number-is = refl; eid-is = refl; key-is = rw whole refl; assembly-is = rw (zero, ends) refl; store-is = rw stored refl }
+      record { number-is = refl; eid-is = refl; unit-is = refl; key-is = rw whole refl; assembly-is = rw (zero, ends) refl; store-is = rw stored refl }
 
   -- all but the assembly is as it was
   record Same (t : Side) : Type 0 where
     eid-same : t .requester .eid ≡ s .requester .eid
+    unit-same : t .requester .unit ≡ s .requester .unit
     store-same : t .store ≡ s .store
     key-same : keyOf (t .requester .awaiting) ≡ keyOf before
 
@@ -106,13 +107,13 @@ module _ (s : Side) (p : List ℕ) where
       go : (b : Bool) → awaits (sourceOf p) (messageTagOf p) before ≡ b → Restarted (if b then dropped s else s)
       go true e =
           record {
-            same-but = record { eid-same = refl; store-same = refl; key-same = key-stays before };
+            same-but = record { eid-same = refl; unit-same = refl; store-same = refl; key-same = key-stays before };
             assembly-now = rw (sym (awaited-is (sourceOf p) (messageTagOf p) before) ∙ e) (assembly-ended before);
             ours-same = awaited-is (sourceOf p) (messageTagOf p) (unassembled before) ∙ still-awaited (sourceOf p) (messageTagOf p) before;
           }
       go false e =
           record {
-            same-but = record { eid-same = refl; store-same = refl; key-same = refl };
+            same-but = record { eid-same = refl; unit-same = refl; store-same = refl; key-same = refl };
             assembly-now = rw (sym (awaited-is (sourceOf p) (messageTagOf p) before) ∙ e) refl;
             ours-same = awaited-is (sourceOf p) (messageTagOf p) before;
           }
@@ -123,6 +124,7 @@ module _ (s : Side) (p : List ℕ) where
       record {
         number-is = refl;
         eid-is = k .same-but .eid-same;
+        unit-is = k .same-but .unit-same;
         key-is = rw whole (k .same-but .key-same);
         assembly-is = rw (zero, ends) (k .assembly-now);
         store-is = rw stored (k .same-but .store-same);
@@ -154,6 +156,7 @@ module _ (s : Side) (p : List ℕ) where
         record {
           number-is = refl;
           eid-is = k .eid-same;
+          unit-is = k .unit-same;
           key-is = sym (key-known (sourceOf p) (messageTagOf p) before awaited);
           assembly-is = rw place refl;
           store-is = filled;
@@ -164,6 +167,7 @@ module _ (s : Side) (p : List ℕ) where
         record {
           number-is = refl;
           eid-is = k .eid-same;
+          unit-is = k .unit-same;
           key-is = key-stays (t .requester .awaiting) ∙ k .key-same;
           assembly-is = rw awaited (assembly-ended (t .requester .awaiting));
           store-is = rw stored filled;
@@ -172,6 +176,7 @@ module _ (s : Side) (p : List ℕ) where
         record {
           number-is = rw counted refl;
           eid-is = k .eid-same;
+          unit-is = k .unit-same;
           key-is = refl;
           assembly-is = refl;
           store-is = filled;
@@ -207,7 +212,8 @@ module _ (s : Side) (p : List ℕ) where
   first-so som =
       row opens (not (eqb (byteAt m 0) message-type)) (not (eqb (byteAt m 0) 0x84)) refl (λ _. first-refused now restart 15 refl refl refl refl)
       (λ _.
-      row opens (isCut unit (fields p) (length m)) (not (hasEom p) && not (eqb (length m) 64)) refl (λ _. first-refused now restart 16 refl refl refl refl)
+      row opens (isCut (now .requester .unit) (fields p) (length m)) (not (hasEom p) && not (eqb (length m) (s .requester .unit)))
+      (ap (λ (u : ℕ). isCut u (fields p) (length m)) (restart .same-but .unit-same)) (λ _. first-refused now restart 16 refl refl refl refl)
       (λ _.
       row opens (fields p .eom && ltb (length m) 8) (hasEom p && ltb (length m) 8) refl (λ _. first-refused now restart 17 refl refl refl refl)
       (λ _.
@@ -245,6 +251,7 @@ module _ (s : Side) (p : List ℕ) where
           record {
             number-is = rw (twelve one) refl;
             eid-is = restart .same-but .eid-same;
+            unit-is = restart .same-but .unit-same;
             key-is = refl;
             assembly-is = refl;
             store-is = rw (restart .same-but .store-same, place-first p before som) refl;
@@ -259,7 +266,7 @@ module _ (s : Side) (p : List ℕ) where
 
   no-assembly : assemblyOf before ≡ [] → Left s p (21, []) (refused s 21)
   no-assembly none =
-      record { number-is = refl; eid-is = refl; key-is = refl; assembly-is = rw none (sym (nowhere ours)); store-is = refl }
+      record { number-is = refl; eid-is = refl; unit-is = refl; key-is = refl; assembly-is = rw none (sym (nowhere ours)); store-is = refl }
 
   abbrev joins-later : Assembly → ℕ → ℕ × List ℕ → Type 0
   joins-later a n x = Left s p x (laterAt s a (fields p) m n)
@@ -270,6 +277,7 @@ module _ (s : Side) (p : List ℕ) where
       record {
         number-is = refl;
         eid-is = refl;
+        unit-is = refl;
         key-is = rw whole (key-stays before);
         assembly-is = rw (zero, ends, awaited) (assembly-ended before);
         store-is = rw stored refl;
@@ -278,7 +286,7 @@ module _ (s : Side) (p : List ℕ) where
   later-gathers : (a : Assembly) → before ≡ Gathering a → hasSom p ≡ false → a .length ≤ length (s .store) → ours ≡ true
       → Left s p (takenIn p (take (a .length) (s .store) ++ m)) (gathered s (a .length) (fields p) m)
   later-gathers a e som fits awaited =
-      gathered-so s (record { eid-same = refl; store-same = refl; key-same = refl }) (a .length) (behind before e) fits awaited (rw som refl)
+      gathered-so s (record { eid-same = refl; unit-same = refl; store-same = refl; key-same = refl }) (a .length) (behind before e) fits awaited (rw som refl)
     where
       behind : (x : Awaiting) → x ≡ Gathering a → placeIn p x ≡ a .length
       behind x q = rw (q, som) refl
@@ -287,7 +295,7 @@ module _ (s : Side) (p : List ℕ) where
   unfolding later laterAt joinRefusal
   later-so v size som = by before refl (v .awaiting-facts)
     where
-      by : (x : Awaiting) → before ≡ x → AwaitingFacts x → Left s p (laterNumbers s p m x) (laterBy s (fields p) m x)
+      by : (x : Awaiting) → before ≡ x → AwaitingFacts (s .requester .unit) x → Left s p (laterNumbers s p m x) (laterBy s (fields p) m x)
       by Nothing e f = no-assembly (ap assemblyOf e)
       by (Awaited k) e f = no-assembly (ap assemblyOf e)
       by (Gathering a) e f =
@@ -298,7 +306,7 @@ module _ (s : Side) (p : List ℕ) where
           row (joins-later a) (not (eqb (fields p .sequence) ((a .sequence + 1) % 4))) (not (eqb (sequenceOf p) ((a .sequence + 1) % 4))) refl
           (λ _. later-refused a e awaited 22 refl refl refl refl)
           (λ _.
-          row (joins-later a) (isCut unit (fields p) (length m)) (not (hasEom p) && not (eqb (length m) 64)) refl (λ _. later-refused a e awaited 16 refl refl refl refl)
+          row (joins-later a) (isCut (s .requester .unit) (fields p) (length m)) (not (hasEom p) && not (eqb (length m) (s .requester .unit))) refl (λ _. later-refused a e awaited 16 refl refl refl refl)
           (λ _.
           row (joins-later a) (ltb store-size (a .length + length m)) (ltb 4224 (a .length + length m)) refl (λ _. later-refused a e awaited 23 refl refl refl refl)
           (λ _. later-gathers a e som (rw size (f .2)) awaited))))
@@ -319,7 +327,7 @@ received-so s p v =
     (λ size.
     row (reads s p) (ltb (length p) 5) (ltb (length p) 5) refl (λ _. unchanged s p 10 refl refl refl refl)
     (λ _.
-    row (reads s p) (ltb (unit + 4) (length p)) (ltb 68 (length p)) refl (λ _. unchanged s p 11 refl refl refl refl)
+    row (reads s p) (ltb (s .requester .unit + 4) (length p)) (ltb (s .requester .unit + 4) (length p)) refl (λ _. unchanged s p 11 refl refl refl refl)
     (λ _.
     row (reads s p) (not (eqb (byteAt p 0 % 16) 1)) (not (eqb (byteAt p 0 % 16) 1)) refl (λ _. unchanged s p 12 refl refl refl refl)
     (λ _.

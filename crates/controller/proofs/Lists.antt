@@ -24,9 +24,9 @@ use Rattle.controller.specs.State.{Side, side, AwaitingFacts, Valid}
 use Rattle.controller.specs.Await.{wasSetUp, nowAwaits}
 use Rattle.controller.specs.Receive.{received}
 use Rattle.controller.specs.Grounds.{sizeOf, keyOf, assemblyOf, isAwaited, isControl, takenIn, firstNumbers, laterNumbers, receiveNumbers, isWhole, placeIn, endsAssembly, isStored, Left, Awaits}
-use Rattle.controller.specs.Lists.{Call, await, cut, primitive, receive, says, after, History, withPacket, keyAfter, packetsAfter, next, run, start, joined, keyIn, Behind, OwnResponse, ResponseOwn, OwnReply, ReplyOwn, numbers, AnswersNamed}
+use Rattle.controller.specs.Lists.{Call, await, cut, primitive, receive, says, after, History, withPacket, keyAfter, packetsAfter, next, run, start, joined, keyIn, Behind, OwnResponse, ResponseOwn, OwnReply, ReplyOwn, numbers, AnswersNamed, IdentityKept}
 use Rattle.controller.specs.Types.{Awaiting, Nothing, Awaited, Gathering, Done}
-use Rattle.controller.proofs.Keeps.{setup-valid, awaits-valid, received-valid}
+use Rattle.controller.proofs.Keeps.{endOf, gathered-most, setup-valid, awaits-valid, received-valid}
 use Rattle.controller.proofs.Calls.{setup-so, awaits-so, cut-so, primitive-so}
 use Rattle.controller.proofs.Grounds.{key-known, place-first, received-so}
 
@@ -61,7 +61,7 @@ module _ (s : Side) (p : List ℕ) where
   record Taken (message : List ℕ) : Type 0 where
     of : Message message
     awaited : isAwaited (sourceOf p) (messageTagOf p) before ≡ true
-    uncut : hasEom p ≡ false → length m ≡ 64
+    uncut : hasEom p ≡ false → length m ≡ s .requester .unit
     short : length message ≤ 4224
     room : length (s .store) ≡ 4224
 
@@ -91,31 +91,31 @@ module _ (s : Side) (p : List ℕ) where
       if-ind Row (not (checkRight message)) (λ _. wrong (t .awaited)) (λ right. whole message t (not-false (hasEom p) ended) (not-false (checkRight message) right)))
 
   -- EOM 0, and a whole unit
-  uncut-is : (not (hasEom p) && not (eqb (length m) 64)) ≡ false → hasEom p ≡ false → length m ≡ 64
-  uncut-is e unended = eqb-true (length m) 64 (not-false (eqb (length m) 64) (rw unended at e))
+  uncut-is : (not (hasEom p) && not (eqb (length m) (s .requester .unit))) ≡ false → hasEom p ≡ false → length m ≡ s .requester .unit
+  uncut-is e unended = eqb-true (length m) (s .requester .unit) (not-false (eqb (length m) (s .requester .unit)) (rw unended at e))
 
-  long-enough : (hasEom p && ltb (length m) 8) ≡ false → (hasEom p ≡ false → length m ≡ 64) → 8 ≤ length m
-  long-enough e u = by (hasEom p) refl
+  long-enough : Valid (s .requester) → (hasEom p && ltb (length m) 8) ≡ false → (hasEom p ≡ false → length m ≡ s .requester .unit) → 8 ≤ length m
+  long-enough v e u = by (hasEom p) refl
     where
       by : (b : Bool) → hasEom p ≡ b → 8 ≤ length m
       by true c = ltb-false (length m) 8 (rw c at e)
-      by false c = omega (arith, u c)
+      by false c = omega (arith, u c, v .unit-least)
 
-  module _ (room : length (s .store) ≡ 4224) (small : length m ≤ 64) where
+  module _ (v : Valid (s .requester)) (room : length (s .store) ≡ 4224) (small : length m ≤ s .requester .unit) where
     first-row : hasSom p ≡ true → Row (firstNumbers s p m)
     first-row som =
         if-ind Row (not (eqb (byteAt m 0) 0x84)) (λ _. refused 15 refl refl refl refl)
         (λ typed.
-        if-ind Row (not (hasEom p) && not (eqb (length m) 64)) (λ _. refused 16 refl refl refl refl)
+        if-ind Row (not (hasEom p) && not (eqb (length m) (s .requester .unit))) (λ _. refused 16 refl refl refl refl)
         (λ uncut.
         if-ind Row (hasEom p && ltb (length m) 8) (λ _. refused 17 refl refl refl refl)
         (λ long.
         if-ind Row (not (isSet (byteAt m 1) 7)) (λ _. refused 15 refl refl refl refl)
         (λ way.
-        by (eqb-true (byteAt m 0) 0x84 (not-false (eqb (byteAt m 0) 0x84) typed)) (uncut-is uncut) (long-enough long (uncut-is uncut)) (not-false (isSet (byteAt m 1) 7) way)
+        by (eqb-true (byteAt m 0) 0x84 (not-false (eqb (byteAt m 0) 0x84) typed)) (uncut-is uncut) (long-enough v long (uncut-is uncut)) (not-false (isSet (byteAt m 1) 7) way)
         (isControl m) refl))))
       where
-        by : byteAt m 0 ≡ 0x84 → (hasEom p ≡ false → length m ≡ 64) → 8 ≤ length m → isSet (byteAt m 1) 7 ≡ true → (c : Bool) → isControl m ≡ c
+        by : byteAt m 0 ≡ 0x84 → (hasEom p ≡ false → length m ≡ s .requester .unit) → 8 ≤ length m → isSet (byteAt m 1) 7 ≡ true → (c : Bool) → isControl m ≡ c
             → Row
             (if c && (not (hasEom p) || not (eqb (length m) 12)) then (18, [])
             else if c && not (checkRight m) then (19, [])
@@ -130,7 +130,7 @@ module _ (s : Side) (p : List ℕ) where
               of = first som (record { typed = typed; way = way; kind = kind; long = long });
               awaited = not-false (isAwaited (sourceOf p) (messageTagOf p) before) awaited;
               uncut = uncut;
-              short = omega arith;
+              short = omega (arith, v .unit-most);
               room = room;
             }))
         by typed uncut long way true kind =
@@ -152,10 +152,10 @@ module _ (s : Side) (p : List ℕ) where
               right = not-false (checkRight m) right;
             }))))
 
-    later-row : hasSom p ≡ false → AwaitingFacts before → Row (laterNumbers s p m before)
+    later-row : hasSom p ≡ false → AwaitingFacts (s .requester .unit) before → Row (laterNumbers s p m before)
     later-row som facts = by before refl facts
       where
-        by : (x : Awaiting) → before ≡ x → AwaitingFacts x → Row (laterNumbers s p m x)
+        by : (x : Awaiting) → before ≡ x → AwaitingFacts (s .requester .unit) x → Row (laterNumbers s p m x)
         by Nothing e f = refused 21 refl refl refl refl
         by (Awaited k) e f = refused 21 refl refl refl refl
         by (Gathering a) e f =
@@ -163,7 +163,7 @@ module _ (s : Side) (p : List ℕ) where
             (λ from.
             if-ind Row (not (eqb (sequenceOf p) ((a .sequence + 1) % 4))) (λ _. refused 22 refl refl refl refl)
             (λ sequence.
-            if-ind Row (not (hasEom p) && not (eqb (length m) 64)) (λ _. refused 16 refl refl refl refl)
+            if-ind Row (not (hasEom p) && not (eqb (length m) (s .requester .unit))) (λ _. refused 16 refl refl refl refl)
             (λ uncut.
             if-ind Row (ltb 4224 (a .length + length m)) (λ _. refused 23 refl refl refl refl)
             (λ fits.
@@ -182,9 +182,9 @@ module _ (s : Side) (p : List ℕ) where
       (λ room.
       if-ind Row (ltb (length p) 5) (λ _. refused 10 refl refl refl refl)
       (λ _.
-      if-ind Row (ltb 68 (length p)) (λ _. refused 11 refl refl refl refl)
+      if-ind Row (ltb (s .requester .unit + 4) (length p)) (λ _. refused 11 refl refl refl refl)
       (λ short.
-      let small : length m ≤ 64 = rw (length-drop 4 p) (omega (arith, ltb-false 68 (length p) short)) in
+      let small : length m ≤ s .requester .unit = rw (length-drop 4 p) (omega (arith, ltb-false (s .requester .unit + 4) (length p) short)) in
       let size : length (s .store) ≡ 4224 = eqb-true (length (s .store)) 4224 (not-false (eqb (length (s .store)) 4224) room) in
       if-ind Row (not (eqb (byteAt p 0 % 16) 1)) (λ _. refused 12 refl refl refl refl)
       (λ _.
@@ -192,19 +192,19 @@ module _ (s : Side) (p : List ℕ) where
       (λ _.
       if-ind Row (isSet (byteAt p 3) 3) (λ _. refused 14 refl refl refl refl)
       (λ _.
-      if-ind Row (hasSom p) (λ som. first-row size small som) (λ som. later-row size small som (v .awaiting-facts))))))))
+      if-ind Row (hasSom p) (λ som. first-row v size small som) (λ som. later-row v size small som (v .awaiting-facts))))))))
 
 -- ---- along a list of calls
 
 -- packets of a response that is not whole yet: what the assembly says of them, and their payloads at the store's front
-data Partly (key : List ℕ) : List (List ℕ) → ℕ → ℕ → List ℕ → Type 0 where
-  partly : {p : List ℕ} {ps : List (List ℕ)} {sequence n : ℕ} {store : List ℕ} → keyIn p ≡ key → Behind key p ps → hasEom p ≡ false → length (bytesFrom4 p) ≡ 64
-      → sequence ≡ sequenceOf p → take n store ≡ joined (p ∷ ps) → Begins (joined (p ∷ ps)) → Partly key (p ∷ ps) sequence n store
+data Partly (unit : ℕ) (key : List ℕ) : List (List ℕ) → ℕ → ℕ → List ℕ → Type 0 where
+  partly : {p : List ℕ} {ps : List (List ℕ)} {sequence n : ℕ} {store : List ℕ} → keyIn p ≡ key → Behind unit key p ps → hasEom p ≡ false → length (bytesFrom4 p) ≡ unit
+      → sequence ≡ sequenceOf p → take n store ≡ joined (p ∷ ps) → Begins (joined (p ∷ ps)) → Partly unit key (p ∷ ps) sequence n store
 
 record Fit (side : Side) (key : List ℕ) (packets : List (List ℕ)) : Type 0 where
   valid : Valid (side .requester)
   key-is : keyOf (side .requester .awaiting) ≡ key
-  parts : (sequence n : ℕ) → assemblyOf (side .requester .awaiting) ≡ sequence ∷ n ∷ [] → Partly key packets sequence n (side .store)
+  parts : (sequence n : ℕ) → assemblyOf (side .requester .awaiting) ≡ sequence ∷ n ∷ [] → Partly (side .requester .unit) key packets sequence n (side .store)
 
 abbrev Fits : History → Type 0
 Fits h = Fit (h .side) (h .key) (h .packets)
@@ -215,14 +215,11 @@ no-parts e f = absurd (omega (arith, ap (λ (x : List ℕ). length x) (sym e ∙
 place-later : (p : List ℕ) (x : Awaiting) (a : Assembly) → x ≡ Gathering a → hasSom p ≡ false → placeIn p x ≡ a .length
 place-later p x a e som = rw (e, som) refl
 
-gathered-most : {a : Assembly} (x : Awaiting) → x ≡ Gathering a → AwaitingFacts x → a .length ≤ 4224
-gathered-most x e f = rw e at f .2
-
 module _ (s : Side) (p key : List ℕ) (packets : List (List ℕ)) (f : Fit s key packets) where
   -- the packets before this one, and the bytes so far
   record Before (message : List ℕ) : Type 0 where
     ours : keyIn p ≡ key
-    behind : Behind key p (if hasSom p then [] else packets)
+    behind : Behind (s .requester .unit) key p (if hasSom p then [] else packets)
     message-is : message ≡ joined (withPacket p packets)
     begins : Begins message
     front : take (length message) (put (s .store) (placeIn p (s .requester .awaiting)) (bytesFrom4 p)) ≡ message
@@ -247,7 +244,7 @@ module _ (s : Side) (p key : List ℕ) (packets : List (List ℕ)) (f : Fit s ke
       by _ (later a e som sequence) = from packets refl (f .parts (a .sequence) (a .length) (ap assemblyOf e))
         where
           fits : a .length ≤ length (s .store)
-          fits = rw (t .room) (gathered-most (s .requester .awaiting) e (f .valid .awaiting-facts))
+          fits = rw (t .room) (gathered-most (s .requester .unit) (s .requester .awaiting) e (f .valid .awaiting-facts))
 
           at : placeIn p (s .requester .awaiting) ≡ a .length
           at = place-later p (s .requester .awaiting) a e som
@@ -255,7 +252,7 @@ module _ (s : Side) (p key : List ℕ) (packets : List (List ℕ)) (f : Fit s ke
           message-length : length (take (a .length) (s .store) ++ bytesFrom4 p) ≡ a .length + length (bytesFrom4 p)
           message-length = simp (length-append, length-take) (omega (arith, fits))
 
-          from : (ps : List (List ℕ)) → packets ≡ ps → Partly key ps (a .sequence) (a .length) (s .store) → Before (take (a .length) (s .store) ++ bytesFrom4 p)
+          from : (ps : List (List ℕ)) → packets ≡ ps → Partly (s .requester .unit) key ps (a .sequence) (a .length) (s .store) → Before (take (a .length) (s .store) ++ bytesFrom4 p)
           from _ e (partly {p = q} {ps = qs} ours behind unended full sequence-is front begins) =
               record {
                 ours = ours-is (t .awaited);
@@ -275,7 +272,7 @@ module _ (s : Side) (p key : List ℕ) (packets : List (List ℕ)) (f : Fit s ke
         parts = λ sequence k e. by sequence k (sym (l .assembly-is) ∙ e);
       }
     where
-      still : (b : Bool) {sequence k : ℕ} → (if b then [] else assemblyOf (s .requester .awaiting)) ≡ sequence ∷ k ∷ [] → Partly key packets sequence k (s .store)
+      still : (b : Bool) {sequence k : ℕ} → (if b then [] else assemblyOf (s .requester .awaiting)) ≡ sequence ∷ k ∷ [] → Partly (s .requester .unit) key packets sequence k (s .store)
       still true e = no-parts refl e
       still false {sequence} {k} e = f .parts sequence k e
 
@@ -283,8 +280,8 @@ module _ (s : Side) (p key : List ℕ) (packets : List (List ℕ)) (f : Fit s ke
           → (if eqb n 0 then sequenceOf p ∷ (placeIn p (s .requester .awaiting) + length (bytesFrom4 p)) ∷ []
           else if endsAssembly s p n then []
           else assemblyOf (s .requester .awaiting)) ≡ sequence ∷ k ∷ []
-          → Partly (if isWhole n then [] else key) (if eqb n 0 then withPacket p packets else packets) sequence k (received s p .side .store)
-      by sequence k e = let q = rw zero at e in rw (zero, part, l .store-is, stored) (still (endsAssembly s p n) q)
+          → Partly (received s p .side .requester .unit) (if isWhole n then [] else key) (if eqb n 0 then withPacket p packets else packets) sequence k (received s p .side .store)
+      by sequence k e = let q = rw zero at e in rw (zero, part, l .unit-is, l .store-is, stored) (still (endsAssembly s p n) q)
   after-row _ (wrong awaited) l =
       record {
         valid = received-valid s p (f .valid);
@@ -302,13 +299,14 @@ module _ (s : Side) (p key : List ℕ) (packets : List (List ℕ)) (f : Fit s ke
     where
       by : (sequence k : ℕ) → Before message
           → _≡_ {A = List ℕ} (sequenceOf p ∷ (placeIn p (s .requester .awaiting) + length (bytesFrom4 p)) ∷ []) (sequence ∷ k ∷ [])
-          → Partly key (withPacket p packets) sequence k (received s p .side .store)
+          → Partly (received s p .side .requester .unit) key (withPacket p packets) sequence k (received s p .side .store)
       by sequence k b e =
           let size : k ≡ length message = cc e ∙ b .counted in
           let newest : sequence ≡ sequenceOf p = cc e in
           let front : take k (received s p .side .store) ≡ joined (withPacket p packets) = rw (l .store-is, size) (b .front ∙ b .message-is) in
           let begins : Begins (joined (withPacket p packets)) = rw (sym (b .message-is)) (b .begins) in
-          partly (b .ours) (b .behind) unended (t .uncut unended) newest front begins
+          rw (l .unit-is)
+          (partly (b .ours) (b .behind) unended (t .uncut unended) newest front begins)
 
 -- ---- every call keeps it
 
@@ -322,7 +320,7 @@ await-fit s key packets source tag d f a v = by (ltb 7 tag) refl
         record {
           valid = v;
           key-is = rw (a .number-is, high) (a .key-is ∙ rw high (f .key-is));
-          parts = λ sequence n e. rw (a .number-is, high) (f .parts sequence n (sym (a .assembly-is ∙ rw high refl) ∙ e));
+          parts = λ sequence n e. rw (a .number-is, high, a .unit-is) (f .parts sequence n (sym (a .assembly-is ∙ rw high refl) ∙ e));
         }
     by false low =
         record {
@@ -355,18 +353,18 @@ unfolding run
 run-fits [] h f = f
 run-fits (c ∷ cs) h f = run-fits cs (next c h) (call-fits c h f)
 
-start-fits : (eid : ℕ) (store : List ℕ) → Fits (start eid store)
+start-fits : (eid unit : ℕ) (store : List ℕ) → Fits (start eid unit store)
 unfolding start
-start-fits eid store =
-    record { valid = setup-valid eid; key-is = setup-so eid .key-is; parts = λ sequence n e. no-parts (none (wasSetUp eid .requester .awaiting) (setup-so eid .key-is)) e }
+start-fits eid unit store =
+    record { valid = setup-valid eid unit; key-is = setup-so eid unit .key-is; parts = λ sequence n e. no-parts (none (wasSetUp eid unit .requester .awaiting) (setup-so eid unit .key-is)) e }
   where
     none : (x : Awaiting) → keyOf x ≡ [] → assemblyOf x ≡ []
     none Nothing e = refl
     none (Awaited k) e = refl
     none (Gathering a) e = no-parts refl (sym e)
 
-every-fits : (eid : ℕ) (store : List ℕ) (cs : List Call) → Fits (run cs (start eid store))
-every-fits eid store cs = run-fits cs (start eid store) (start-fits eid store)
+every-fits : (eid unit : ℕ) (store : List ℕ) (cs : List Call) → Fits (run cs (start eid unit store))
+every-fits eid unit store cs = run-fits cs (start eid unit store) (start-fits eid unit store)
 
 -- ---- what is told as whole
 
@@ -406,9 +404,9 @@ unfolding says
 told-is h p n f e = ap (λ (x : ℕ × List ℕ). x .0) (sym (answered h p f .left .number-is)) ∙ e
 
 pub response-own : ResponseOwn
-response-own eid store cs p e =
-    let h = run cs (start eid store) in
-    let f = every-fits eid store cs in
+response-own eid unit store cs p e =
+    let h = run cs (start eid unit store) in
+    let f = every-fits eid unit store cs in
     own-response h p (receiveNumbers (h .side) p) f (answered h p f) (told-is h p 1 f e)
 
 own-reply : (h : History) (p : List ℕ) (n : ℕ × List ℕ) → Fits h → Answered (h .side) p n → n .0 ≡ 2 → OwnReply h p
@@ -437,9 +435,9 @@ own-reply h p n f a = by n (a .row-is) (a .left)
         }
 
 pub reply-own : ReplyOwn
-reply-own eid store cs p e =
-    let h = run cs (start eid store) in
-    let f = every-fits eid store cs in
+reply-own eid unit store cs p e =
+    let h = run cs (start eid unit store) in
+    let f = every-fits eid unit store cs in
     own-reply h p (receiveNumbers (h .side) p) f (answered h p f) (told-is h p 2 f e)
 
 -- ---- every answer is one of the numbers
@@ -461,18 +459,39 @@ call-named h f (await source tag) =
     (if-ind (λ (n : ℕ). isOneOf n (0 ∷ 41 ∷ []) ≡ true) (ltb 7 tag) (λ _. refl) (λ _. refl))
 call-named h f (cut destination tag message buffer) =
     let named = Named (cut destination tag message buffer) in
-    rw (cut-so (h .side .requester) destination tag message buffer .wrote .number-is)
+    rw (cut-so (h .side .requester) destination tag message buffer (f .valid) .wrote .number-is)
     (if-ind named (ltb (length message) 8 || ltb 4224 (length message) || ltb 7 tag) (λ _. refl)
-    (λ _. if-ind named (ltb (length buffer) (sizeOf message)) (λ _. refl) (λ _. refl)))
+    (λ _. if-ind named (ltb (length buffer) (sizeOf (h .side .requester .unit) message)) (λ _. refl) (λ _. refl)))
 call-named h f (primitive destination tag p buffer) =
     let named = Named (primitive destination tag p buffer) in
-    rw (primitive-so (h .side .requester) destination tag p buffer .wrote .number-is)
+    rw (primitive-so (h .side .requester) destination tag p buffer (f .valid) .wrote .number-is)
     (if-ind named (ltb 7 tag) (λ _. refl)
     (λ _. if-ind named (ltb 1 (p .slot)) (λ _. refl) (λ _. if-ind named (ltb (length buffer) 16) (λ _. refl) (λ _. refl))))
 call-named h f (receive p) =
     rw (answered h p f .left .number-is) (row-named (h .side) p (receiveNumbers (h .side) p) (answered h p f .row-is))
 
 pub answers-named : AnswersNamed
-answers-named eid store cs =
-    let f = every-fits eid store cs in
-    (f .valid, call-named (run cs (start eid store)) f)
+answers-named eid unit store cs =
+    let f = every-fits eid unit store cs in
+    (f .valid, call-named (run cs (start eid unit store)) f)
+
+-- ---- no call changes the EID or the unit
+
+call-end : (c : Call) (h : History) → Fits h → endOf (next c h .side .requester) ≡ endOf (h .side .requester)
+unfolding next after
+call-end (await source tag) h f = let a = awaits-so (h .side .requester) source tag in rw (a .eid-is, a .unit-is) refl
+call-end (cut destination tag m buffer) h f = refl
+call-end (primitive destination tag p buffer) h f = refl
+call-end (receive p) h f = let l = received-so (h .side) p (f .valid) in rw (l .eid-is, l .unit-is) refl
+
+run-end : (cs : List Call) (h : History) → Fits h → endOf (run cs h .side .requester) ≡ endOf (h .side .requester)
+unfolding run
+run-end [] h f = refl
+run-end (c ∷ cs) h f = run-end cs (next c h) (call-fits c h f) ∙ call-end c h f
+
+pub identity-kept : IdentityKept
+unfolding start
+identity-kept eid unit store cs =
+    let e = run-end cs (start eid unit store) (start-fits eid unit store) in
+    let k = setup-so eid unit in
+    record { eid-is = ap (λ (x : ℕ × ℕ). x .0) e ∙ k .eid-is; unit-is = ap (λ (x : ℕ × ℕ). x .1) e ∙ k .unit-is }

@@ -1,6 +1,6 @@
 -- THE REQUESTER OVER LISTS OF CALLS. Whatever is called and whatever comes in between: what is told as a whole response is well formed, and came packet
--- behind packet from the source and under the tag that were awaited last, since they were. The proofs: `response-own`, `reply-own`, `answers-named`
--- (proofs/Lists).
+-- behind packet from the source and under the tag that were awaited last, since they were. The proofs: `response-own`, `reply-own`, `answers-named`,
+-- `identity-kept` (proofs/Lists).
 -- Assumes nothing.
 use Prim.Native.Nat.{ℕ, _+_, _/_, _%_}
 use mathlib.Core.Path.{_≡_}
@@ -10,6 +10,7 @@ use lib.Dec.{eqb}
 use lib.ListN.{length, take}
 use Rattle.lent.specs.Choice.{if_then_else_}
 use Rattle.lent.specs.Bytes.{byteAt, isSet}
+use Rattle.mctp.specs.Setup.{setupNumber}
 use Rattle.nvme_mi.specs.Check.{checkRight}
 use Rattle.opening.specs.Formed.{WellFormed}
 use Rattle.machine.specs.History.{hasSom, sourceOf, messageTagOf, bytesFrom4}
@@ -20,7 +21,7 @@ use Rattle.controller.specs.Await.{wasSetUp, nowAwaits}
 use Rattle.controller.specs.Send.{sendSays, cutTo, primitiveTo}
 use Rattle.controller.specs.Receive.{receiveSays, received}
 use Rattle.controller.specs.Grounds.{isWhole}
-use Rattle.controller.specs.Types.{Primitive}
+use Rattle.controller.specs.Types.{Requester, Primitive}
 
 -- ---- the calls on one requester and its store; setup is none of them: it starts a list
 
@@ -89,13 +90,13 @@ unfolding next
 run [] h = h
 run (c ∷ cs) h = run cs (next c h)
 
-unfoldable pub start : ℕ → List ℕ → History
+unfoldable pub start : ℕ → ℕ → List ℕ → History
 unfolding wasSetUp
-start eid store = record { side = side (wasSetUp eid .requester) store; key = []; packets = [] }
+start eid unit store = record { side = side (wasSetUp eid unit .requester) store; key = []; packets = [] }
 
 -- any list of calls from any setup, on a store of any length
 abbrev pub Every : (History → Type 0) → Type 0
-Every P = (eid : ℕ) (store : List ℕ) (cs : List Call) → P (run cs (start eid store))
+Every P = (eid unit : ℕ) (store : List ℕ) (cs : List Call) → P (run cs (start eid unit store))
 
 -- ---- what is told as whole
 
@@ -107,12 +108,12 @@ joined (p ∷ ps) = joined ps ++ bytesFrom4 p
 abbrev pub keyIn : List ℕ → List ℕ
 keyIn p = sourceOf p ∷ messageTagOf p ∷ []
 
--- a packet stands behind these: it has SOM if there is none, else the next sequence number; those before it have this source and tag, EOM 0 and 64
--- payload bytes
-abbrev pub Behind : List ℕ → List ℕ → List (List ℕ) → Type 0
-Behind key p [] = hasSom p ≡ true
-Behind key p (q ∷ qs) =
-    (hasSom p ≡ false) × (sequenceOf p ≡ (sequenceOf q + 1) % 4) × (keyIn q ≡ key) × (hasEom q ≡ false) × (length (bytesFrom4 q) ≡ 64) × Behind key q qs
+-- a packet stands behind these: it has SOM if there is none, else the next sequence number; those before it have this source and tag, EOM 0 and a
+-- full payload
+abbrev pub Behind : ℕ → List ℕ → List ℕ → List (List ℕ) → Type 0
+Behind unit key p [] = hasSom p ≡ true
+Behind unit key p (q ∷ qs) =
+    (hasSom p ≡ false) × (sequenceOf p ≡ (sequenceOf q + 1) % 4) × (keyIn q ≡ key) × (hasEom q ≡ false) × (length (bytesFrom4 q) ≡ unit) × Behind unit key q qs
 
 -- the message that this packet ends, with those before it
 abbrev pub messageWith : List ℕ → History → List ℕ
@@ -121,7 +122,7 @@ messageWith p h = joined (withPacket p (h .packets))
 pub record OwnResponse (h : History) (p : List ℕ) : Type 0 where
   -- source and tag are those that were awaited last; the packets before it are of the same, in order; it has EOM
   pub awaited : keyIn p ≡ h .key
-  pub in-order : Behind (h .key) p (if hasSom p then [] else h .packets)
+  pub in-order : Behind (h .side .requester .unit) (h .key) p (if hasSom p then [] else h .packets)
   pub last : hasEom p ≡ true
   -- their payloads are a well-formed response; its length is told, and it is at the store's front
   pub formed : WellFormed true (messageWith p h)
@@ -157,3 +158,12 @@ numbers (receive p) = 0 ∷ 1 ∷ 2 ∷ 10 ∷ 11 ∷ 12 ∷ 13 ∷ 14 ∷ 15 �
 
 abbrev pub AnswersNamed : Type 0
 AnswersNamed = Every (λ h. Valid (h .side .requester) × ((c : Call) → isOneOf (says c (h .side) .0) (numbers c) ≡ true))
+
+-- ---- the EID and the unit are those that setup was given, 8 and 64 where it refused one of them; no call changes them
+
+pub record SetupKept (eid unit : ℕ) (r : Requester) : Type 0 where
+  pub eid-is : r .eid ≡ (if eqb (setupNumber eid unit) 0 then eid else 8)
+  pub unit-is : r .unit ≡ (if eqb (setupNumber eid unit) 0 then unit else 64)
+
+abbrev pub IdentityKept : Type 0
+IdentityKept = (eid unit : ℕ) (store : List ℕ) (cs : List Call) → SetupKept eid unit (run cs (start eid unit store) .side .requester)

@@ -21,7 +21,7 @@ use Rattle.opening.specs.declared.Joined.{Joined}
 use Rattle.opening.specs.declared.Joined.the-variants.{More as Unfinished, Wrong, Whole}
 use Rattle.machine.specs.Answers.{more-to-come, command-complete, control-done, wrong-stores}
 use Rattle.machine.specs.Receive.{isFrom, assembly}
-use Rattle.machine.specs.Wire.{unit, store-size, outward}
+use Rattle.machine.specs.Wire.{store-size, outward}
 use Rattle.machine.specs.declared.Assembly.{Assembly}
 use Rattle.controller.specs.Answers.{not-awaited}
 use Rattle.controller.specs.State.{awaits, unassembled, Side, side, withAwaiting, Outcome, outcome}
@@ -78,7 +78,7 @@ firstBy s h m OtherMessage = ifAwaited s h (gathered s 0 h m)
 
 unfoldable pub first : Side → Header → List ℕ → Outcome
 unfolding gathered opened
-first s h m = firstBy s h m (opened unit true h m)
+first s h m = firstBy s h m (opened (s .requester .unit) true h m)
 
 -- ---- SOM 0: 21; the next three, 22, 16 and 23, end the assembly
 
@@ -93,7 +93,7 @@ laterBy s h payload Nothing = refused s no-assembly
 laterBy s h payload (Awaited k) = refused s no-assembly
 laterBy s h payload (Gathering a) =
     if not (isFrom (h .source) (h .tag) a) then refused s no-assembly
-    else laterAt s a h payload (joinRefusal unit store-size (a .sequence) (a .length) h (length payload))
+    else laterAt s a h payload (joinRefusal (s .requester .unit) store-size (a .sequence) (a .length) h (length payload))
 
 unfoldable pub later : Side → Header → List ℕ → Outcome
 unfolding laterAt
@@ -112,4 +112,4 @@ unfoldable pub received : Side → List ℕ → Outcome
 unfolding first later readHeader
 received s packet =
     if not (eqb (length (s .store)) store-size) then refused s wrong-stores
-    else receivedBy s (payloadOf packet) (readHeader (s .requester .eid) unit outward packet)
+    else receivedBy s (payloadOf packet) (readHeader (s .requester .eid) (s .requester .unit) outward packet)

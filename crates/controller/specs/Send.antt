@@ -14,7 +14,7 @@ use Rattle.nvme_mi.specs.Check.{withCheck}
 use Rattle.nvme_mi.specs.Message.{message-type, smallest}
 use Rattle.machine.specs.Answers.{done, no-such-slot, short-buffer}
 use Rattle.machine.specs.Finish.{isSlot}
-use Rattle.machine.specs.Wire.{unit, store-size, inward}
+use Rattle.machine.specs.Wire.{store-size, inward}
 use Rattle.controller.specs.Answers.{out-of-range}
 use Rattle.controller.specs.Await.{wrongTag}
 use Rattle.controller.specs.Types.{Requester, Primitive, SendAnswer}
@@ -53,7 +53,7 @@ unfoldable pub cutTo : Requester → ℕ → ℕ → List ℕ → List ℕ → S
 unfolding written cut
 cutTo r destination tag message buffer =
     if wrongSize (length message) || wrongTag tag then sentTo (Refused out-of-range) buffer
-    else written (endToEnd (cut unit (routeFrom r destination tag) message)) buffer
+    else written (endToEnd (cut (r .unit) (routeFrom r destination tag) message)) buffer
 
 -- ---- a control primitive
 
@@ -68,4 +68,4 @@ unfolding written packet controlRequest
 primitiveTo r destination tag primitive buffer =
     if wrongTag tag then sentTo (Refused out-of-range) buffer
     else if not (isSlot (primitive .slot)) then sentTo (Refused no-such-slot) buffer
-    else written (packet unit (routeFrom r destination tag) (controlRequest primitive) 0) buffer
+    else written (packet (r .unit) (routeFrom r destination tag) (controlRequest primitive) 0) buffer

@@ -1,17 +1,19 @@
 -- The requester's state, "It awaits one source and tag at a time (none after setup)", and its lent store.
 -- Assumes nothing.
-use Prim.Native.Nat.{ℕ, _≤_}
+use Prim.Native.Nat.{ℕ, _%_, _≤_}
+use mathlib.Core.Path.{_≡_}
 use mathlib.Core.Bool.{Bool, false, _&&_}
 use mathlib.Core.List.{List}
 use lib.Dec.{eqb}
+use Rattle.mctp.specs.Setup.{first-eid, last-eid, least-unit, most-unit}
 use Rattle.machine.specs.Receive.{isFrom}
 use Rattle.controller.specs.Types.{Key, Awaiting, Nothing, Awaited, Gathering, Requester, Done, ReceiveAnswer}
 
 abbrev pub key : ℕ → ℕ → Key
 key source tag = record { source = source; tag = tag }
 
-abbrev pub requester : ℕ → Awaiting → Requester
-requester eid a = record { eid = eid; awaiting = a }
+abbrev pub requester : ℕ → ℕ → Awaiting → Requester
+requester eid unit a = record { eid = eid; unit = unit; awaiting = a }
 
 -- what a call that is lent no store answers, and the state that it leaves
 abbrev pub ended : ℕ → Requester → Done
@@ -41,7 +43,7 @@ abbrev pub side : Requester → List ℕ → Side
 side r s = record { requester = r; store = s }
 
 abbrev pub withAwaiting : Side → Awaiting → Side
-withAwaiting s a = side (requester (s .requester .eid) a) (s .store)
+withAwaiting s a = side (requester (s .requester .eid) (s .requester .unit) a) (s .store)
 
 -- what receiving a packet answers, and what it leaves
 pub record Outcome : Type 0 where
@@ -53,12 +55,15 @@ outcome n s = record { answer = n; side = s }
 
 -- ---- the invariant: what holds of every state that comes from a setup through the calls
 
-abbrev pub AwaitingFacts : Awaiting → Type 0
-AwaitingFacts Nothing = Unit {0}
-AwaitingFacts (Awaited k) = k .tag ≤ 7
-AwaitingFacts (Gathering a) = (a .tag ≤ 7) × (64 ≤ a .length) × (a .length ≤ 4224)
+-- what is gathered are full payloads alone, one at least
+abbrev pub AwaitingFacts : ℕ → Awaiting → Type 0
+AwaitingFacts unit Nothing = Unit {0}
+AwaitingFacts unit (Awaited k) = k .tag ≤ 7
+AwaitingFacts unit (Gathering a) = (a .tag ≤ 7) × (unit ≤ a .length) × (a .length ≤ 4224) × (a .length % unit ≡ 0)
 
 pub record Valid (r : Requester) : Type 0 where
-  pub eid-least : 8 ≤ r .eid
-  pub eid-most : r .eid ≤ 254
-  pub awaiting-facts : AwaitingFacts (r .awaiting)
+  pub eid-least : first-eid ≤ r .eid
+  pub eid-most : r .eid ≤ last-eid
+  pub unit-least : least-unit ≤ r .unit
+  pub unit-most : r .unit ≤ most-unit
+  pub awaiting-facts : AwaitingFacts (r .unit) (r .awaiting)

@@ -27,6 +27,7 @@ pub use machine::answers::DONE;
 pub use machine::answers::NO_SUCH_SLOT;
 pub use machine::answers::SHORT_BUFFER;
 pub use machine::answers::WRONG_EID;
+pub use machine::answers::WRONG_UNIT;
 
 // A message of another size than 8 to 4,224 bytes, or a message tag above 7.
 pub const OUT_OF_RANGE: u8 = 41;

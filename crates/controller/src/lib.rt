@@ -19,8 +19,10 @@ pub enum Awaiting {
     Gathering(Assembly),
 }
 
+// `unit` is the largest payload of a packet.
 pub struct Requester {
     pub eid: u8,
+    pub unit: usize,
     pub awaiting: Awaiting,
 }
 

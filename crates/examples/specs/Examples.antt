@@ -1,5 +1,5 @@
--- The marked examples of "Examples from the bench", as one table under a single statement. Each run starts at setup, with EID 8, and uses
--- real packets; their checks are literals, computed by another program.
+-- The marked examples of "Examples from the bench", as one table under a single statement. Each run starts at setup, with EID 8 and the unit
+-- 64 ("01's cases and log keep U 64"), and uses real packets; their checks are literals, computed by another program.
 -- Assumes nothing.
 use Prim.Native.Nat.{ℕ, _-_}
 use mathlib.Core.Path.{_≡_, refl}
@@ -144,9 +144,9 @@ table =
     body ((1 ∷ []) ∷ (0 ∷ 1 ∷ []) ∷ (2 ∷ []) ∷ (0x00 ∷ 0x5A ∷ 0x02 ∷ 0x00 ∷ []) ∷ (31 ∷ []) ∷ (1 ∷ []) ∷ (32 ∷ []) ∷ [])
     ∷ []
 
--- from setup with EID 8 and stores of zeros
+-- from setup with EID 8, the unit 64 and stores of zeros
 abbrev pub run : Case → List (List ℕ)
-run c = map (c .looked) (events (c .calls) (begin 8 (replicate 4224 0) (replicate 4224 0)))
+run c = map (c .looked) (events (c .calls) (begin 8 64 (replicate 4224 0) (replicate 4224 0)))
 
 -- THE STATEMENT: each run of the table is seen as the table says
 pub examples : map run table ≡ map (λ (c : Case). c .seen) table

@@ -1,5 +1,5 @@
 -- The premises of `command-arrives`, `response-arrives`, `answer-returns` and `primitive-answered` can be met: one exchange of both ends, by computation.
--- The requester has EID 9, the endpoint EID 8. The packets are literals, written by another program.
+-- The requester has EID 9, the endpoint EID 8, both the unit 64. The packets are literals, written by another program.
 -- Assumes nothing.
 use Prim.Native.Nat.{ℕ}
 use mathlib.Core.Path.{_≡_, refl}
@@ -33,11 +33,11 @@ use Rattle.examples.specs.Examples.{polling, answer}
 use Rattle.examples.specs.Runs.{zeros, seen}
 
 abbrev pub controller : Requester
-controller = requester 9 Nothing
+controller = requester 9 64 Nothing
 
 -- it awaits EID 8 under tag 1
 abbrev awaiting : Side
-awaiting = side (requester 9 (Awaited (key 8 1))) zeros
+awaiting = side (requester 9 64 (Awaited (key 8 1))) zeros
 
 abbrev said : ℕ × List ℕ → List ℕ
 said x = x .0 ∷ x .1
@@ -67,7 +67,7 @@ unfolding withCheck
 no-answer = refl
 
 -- the requester cuts it into 80 bytes, its two packets
-pub there : packetsIn command (cutTo controller 8 1 command (replicate 80 0)) ≡ first-packet ∷ second-packet ∷ []
+pub there : packetsIn 64 command (cutTo controller 8 1 command (replicate 80 0)) ≡ first-packet ∷ second-packet ∷ []
 unfolding cutTo cutPacket
 there = refl
 
@@ -75,7 +75,7 @@ there = refl
 abbrev received-calls : List Call
 received-calls = receive first-packet ∷ receive second-packet ∷ []
 
-pub command-came : (yes (isIdleNow (phaseAt (start 8 zeros zeros .world) 1)) ∷ map answer (events (received-calls ++ (take! 1 ∷ read 1 ∷ [])) (begin 8 zeros zeros)))
+pub command-came : (yes (isIdleNow (phaseAt (start 8 64 zeros zeros .world) 1)) ∷ map answer (events (received-calls ++ (take! 1 ∷ read 1 ∷ [])) (begin 8 64 zeros zeros)))
     ≡ (1 ∷ []) ∷ (0 ∷ []) ∷ (1 ∷ []) ∷ (0 ∷ 1 ∷ []) ∷ command ∷ []
 unfolding events begin start readHeader joinRefusal commandFault checkRight crc32c reflect register steps stepCrc
 command-came = refl
@@ -90,7 +90,7 @@ second-back = 1 ∷ 9 ∷ 8 ∷ 0x51 ∷ 0 ∷ 0x6E ∷ 0x4D ∷ 0x9C ∷ 0xBB �
 
 unfoldable pub answered : History
 unfolding run start
-answered = run (received-calls ++ (take! 1 ∷ complete 1 (ticket 1) (replicate 61 0) ∷ [])) (start 8 zeros zeros)
+answered = run (received-calls ++ (take! 1 ∷ complete 1 (ticket 1) (replicate 61 0) ∷ [])) (start 8 64 zeros zeros)
 
 abbrev pub polls : List Call
 polls = polling ∷ polling ∷ polling ∷ []
@@ -126,11 +126,11 @@ replyIn (sent n v) = handedOut v
 replyIn (waiting n e) = []
 
 -- the endpoint answers it with 2, and the next poll hands out its reply
-pub get-state-done : answer (step (receive get-state-1) (begin 8 zeros zeros) .event) ≡ 2 ∷ []
+pub get-state-done : answer (step (receive get-state-1) (begin 8 64 zeros zeros) .event) ≡ 2 ∷ []
 unfolding step begin readHeader controlFault response withCheck checkRight crc32c reflect register steps stepCrc
 get-state-done = refl
 
-pub get-state-goes : replyIn (replyFate 0 polls (step (receive get-state-1) (begin 8 zeros zeros) .world)) ≡ its-reply
+pub get-state-goes : replyIn (replyFate 0 polls (step (receive get-state-1) (begin 8 64 zeros zeros) .world)) ≡ its-reply
 unfolding step begin replyFate readHeader cutPacket controlFault response withCheck checkRight crc32c reflect register steps stepCrc
 get-state-goes = refl
 

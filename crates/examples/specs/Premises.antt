@@ -22,7 +22,7 @@ use Rattle.examples.specs.Runs.{zeros, resume, seen}
 -- ---- histories
 
 abbrev new : History
-new = start 8 zeros zeros
+new = start 8 64 zeros zeros
 
 -- slot 0 has a command: it waits, is taken, and sends a response of one packet
 abbrev waiting : History
@@ -89,7 +89,7 @@ shown =
     -- refused-packet, refused-call, and 40 with stores of another length
     ∷ says (receive (replicate 4 1)) new
     ∷ says (take! 7) new
-    ∷ answer (step polling (begin 8 [] zeros) .event)
+    ∷ answer (step polling (begin 8 64 [] zeros) .event)
     ∷ []
 
 pub premises : shown

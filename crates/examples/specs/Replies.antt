@@ -18,7 +18,7 @@ use Rattle.examples.specs.Examples.{mi-20, get-state, taking, completing
 
 -- slot 0 has a response to send, the last packet handed out was a control reply, and another waits
 pub before-reply : History
-before-reply = run (mi-20 ∷ taking ∷ completing 4 ∷ get-state ∷ polling ∷ get-state ∷ []) (start 8 (replicate 4224 0) (replicate 4224 0))
+before-reply = run (mi-20 ∷ taking ∷ completing 4 ∷ get-state ∷ polling ∷ get-state ∷ []) (start 8 64 (replicate 4224 0) (replicate 4224 0))
 
 pub reply-waits : before-reply .world .endpoint .«reply_waits» ≡ true
 unfolding before-reply run start readHeader joinRefusal cutPacket commandFault controlFault response withCheck checkRight crc32c reflect register steps stepCrc

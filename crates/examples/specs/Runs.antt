@@ -1,8 +1,9 @@
--- The premises of demand 3 can be met, and its bound is tight, at 66 packets left and at one: closed runs, by computation.
+-- The premises of demand 3 can be met, and its bound is tight, with the most packets left and with one, at the units 64, 100 and 250 (the last two do
+-- not divide 4,224): closed runs, by computation.
 -- Assumes nothing.
-use Prim.Native.Nat.{ℕ, zero, suc}
+use Prim.Native.Nat.{ℕ, zero, suc, _+_, _-_}
 use mathlib.Core.Path.{_≡_, refl}
-use mathlib.Core.Bool.{true}
+use mathlib.Core.Bool.{Bool, true, false}
 use mathlib.Core.List.{List, [], _∷_, _++_}
 use lib.ListN.{length, replicate}
 use Rattle.crc32c.specs.Crc32c.{crc32c, reflect, register, steps, step}
@@ -13,7 +14,7 @@ use Rattle.nvme_mi.specs.Message.{commandFault, controlFault}
 use Rattle.nvme_mi.specs.Check.{checkRight, withCheck}
 use Rattle.nvme_mi.specs.Response.{response}
 use Rattle.machine.specs.State.{ticket}
-use Rattle.machine.specs.Calls.{Call, take!, complete}
+use Rattle.machine.specs.Calls.{Call, take!, complete, poll}
 use Rattle.examples.specs.Examples.{packet, mi-20, control, pause, get-state, polling}
 use Rattle.machine.specs.History.{History, phaseAt, isTransmit, run, start, packetsLeft}
 use Rattle.machine.specs.Demands.{Fate, cut, delivered, open!, fate}
@@ -48,7 +49,7 @@ zeros = replicate 4224 0
 -- ---- a run that meets the premises: three packets left, and a control reply, a pause and the other slot in between
 
 pub before-some : History
-before-some = run (mi-20 ∷ answering 0 1 150) (start 8 zeros zeros)
+before-some = run (mi-20 ∷ answering 0 1 150) (start 8 64 zeros zeros)
 
 -- a packet; a Get State; the other slot's command, answered; a Pause, under which a poll is not counted; a Resume; and polls
 abbrev some-calls : List Call
@@ -67,55 +68,54 @@ pub some-run : seen 0 (fate 0 some-calls before-some) ≡ 1 ∷ 5 ∷ 158 ∷ []
 unfolding before-some run start fate readHeader joinRefusal cutPacket commandFault controlFault response withCheck checkRight crc32c reflect register steps step
 some-run = refl
 
--- ---- a run that needs all 264 polls: both slots have 66 packets to send, slot 1's turn is first, and a control reply goes before each packet
+-- ---- runs that need every poll of the bound: slot 1's turn is first, slot 1 has the longest response to send, and a control reply goes before each
+-- packet
 
--- slot 0 sends a response of one packet, so that the turn is slot 1's; then both slots get a response of 4,224 bytes
-pub before-longest : History
-before-longest =
-    run (mi-20 ∷ (answering 0 1 4 ++ (polling ∷ mi-20 ∷ (answering 0 2 4216 ++ (mi-20-slot-1 ∷ answering 1 1 4216))))) (start 8 zeros zeros)
+abbrev polling-at : ℕ → Call
+polling-at unit = poll (replicate (unit + 4) 0)
+
+-- slot 0 sends a response of one packet, so that the turn is slot 1's; then slot 0 gets a response with a body of n bytes, and slot 1 one of 4,224 bytes
+abbrev before : ℕ → ℕ → History
+before unit n =
+    run (mi-20 ∷ (answering 0 1 4 ++ (polling-at unit ∷ mi-20 ∷ (answering 0 2 n ++ (mi-20-slot-1 ∷ answering 1 1 4216))))) (start 8 unit zeros zeros)
 
 -- a control primitive, the poll that hands out its reply, and the poll that hands out a command packet
-abbrev round : List Call
-round = get-state ∷ polling ∷ polling ∷ []
+abbrev round : ℕ → List Call
+round unit = get-state ∷ polling-at unit ∷ polling-at unit ∷ []
 
-pub longest-premise : isTransmit (phaseAt (before-longest .world) 0) ≡ true
-unfolding before-longest run start readHeader joinRefusal cutPacket commandFault controlFault response withCheck checkRight crc32c reflect register steps step
-longest-premise = refl
+abbrev yes : Bool → List ℕ
+yes true = 1 ∷ []
+yes false = 0 ∷ []
 
-pub longest-left : packetsLeft 0 before-longest ≡ 66
-unfolding before-longest run start readHeader joinRefusal cutPacket commandFault controlFault response withCheck checkRight crc32c reflect register steps step
-longest-left = refl
+-- slot 0 is in Transmit; the packets that it has left; what has become of them before the last poll of n rounds, and with it. One poll was counted before.
+abbrev tight : ℕ → ℕ → History → List (List ℕ)
+tight unit n h =
+    yes (isTransmit (phaseAt (h .world) 0))
+    ∷ (packetsLeft 0 h ∷ [])
+    ∷ seen 0 (fate 0 (times (n - 1) (round unit) ++ (get-state ∷ polling-at unit ∷ [])) h)
+    ∷ seen 0 (fate 0 (times n (round unit)) h)
+    ∷ []
 
--- one poll was counted before; after 263 more the last packet has not gone
-pub longest-open : seen 0 (fate 0 (times 131 round ++ (get-state ∷ polling ∷ [])) before-longest) ≡ 2 ∷ 264 ∷ 4160 ∷ []
-unfolding before-longest times run start fate readHeader joinRefusal cutPacket commandFault controlFault response withCheck checkRight crc32c reflect register steps step
-longest-open = refl
+-- both slots have the most packets: 66 at the unit 64, and the last goes with the 264th poll
+pub longest-64 : tight 64 132 (before 64 4216) ≡ (1 ∷ []) ∷ (66 ∷ []) ∷ (2 ∷ 264 ∷ 4160 ∷ []) ∷ (1 ∷ 265 ∷ 4224 ∷ []) ∷ []
+unfolding times run start fate readHeader joinRefusal cutPacket commandFault controlFault response withCheck checkRight crc32c reflect register steps step
+longest-64 = refl
 
--- with the 264th it goes
-pub longest-done : seen 0 (fate 0 (times 132 round) before-longest) ≡ 1 ∷ 265 ∷ 4224 ∷ []
-unfolding before-longest times run start fate readHeader joinRefusal cutPacket commandFault controlFault response withCheck checkRight crc32c reflect register steps step
-longest-done = refl
+-- 43 at 100, with the 172nd
+pub longest-100 : tight 100 86 (before 100 4216) ≡ (1 ∷ []) ∷ (43 ∷ []) ∷ (2 ∷ 172 ∷ 4200 ∷ []) ∷ (1 ∷ 173 ∷ 4224 ∷ []) ∷ []
+unfolding times run start fate readHeader joinRefusal cutPacket commandFault controlFault response withCheck checkRight crc32c reflect register steps step
+longest-100 = refl
 
--- ---- a run at k 1 that needs all 2 x (66 + 1) polls: slot 0 has one packet to send, slot 1 has 66 and the turn
+-- 17 at 250, with the 68th
+pub longest-250 : tight 250 34 (before 250 4216) ≡ (1 ∷ []) ∷ (17 ∷ []) ∷ (2 ∷ 68 ∷ 4000 ∷ []) ∷ (1 ∷ 69 ∷ 4224 ∷ []) ∷ []
+unfolding times run start fate readHeader joinRefusal cutPacket commandFault controlFault response withCheck checkRight crc32c reflect register steps step
+longest-250 = refl
 
-pub before-last : History
-before-last =
-    run (mi-20 ∷ (answering 0 1 4 ++ (polling ∷ mi-20 ∷ (answering 0 2 4 ++ (mi-20-slot-1 ∷ answering 1 1 4216))))) (start 8 zeros zeros)
+-- slot 0 has one packet, of twelve bytes: at 64 it goes with poll 2 x (66 + 1), at 250 with poll 2 x (17 + 1)
+pub last-64 : tight 64 67 (before 64 4) ≡ (1 ∷ []) ∷ (1 ∷ []) ∷ (2 ∷ 134 ∷ 0 ∷ []) ∷ (1 ∷ 135 ∷ 12 ∷ []) ∷ []
+unfolding times run start fate readHeader joinRefusal cutPacket commandFault controlFault response withCheck checkRight crc32c reflect register steps step
+last-64 = refl
 
-pub last-premise : isTransmit (phaseAt (before-last .world) 0) ≡ true
-unfolding before-last run start readHeader joinRefusal cutPacket commandFault controlFault response withCheck checkRight crc32c reflect register steps step
-last-premise = refl
-
-pub last-left : packetsLeft 0 before-last ≡ 1
-unfolding before-last run start readHeader joinRefusal cutPacket commandFault controlFault response withCheck checkRight crc32c reflect register steps step
-last-left = refl
-
--- one poll was counted before; after 133 more the packet has not gone
-pub last-open : seen 0 (fate 0 (times 66 round ++ (get-state ∷ polling ∷ [])) before-last) ≡ 2 ∷ 134 ∷ 0 ∷ []
-unfolding before-last times run start fate readHeader joinRefusal cutPacket commandFault controlFault response withCheck checkRight crc32c reflect register steps step
-last-open = refl
-
--- with the 134th it goes
-pub last-done : seen 0 (fate 0 (times 67 round) before-last) ≡ 1 ∷ 135 ∷ 12 ∷ []
-unfolding before-last times run start fate readHeader joinRefusal cutPacket commandFault controlFault response withCheck checkRight crc32c reflect register steps step
-last-done = refl
+pub last-250 : tight 250 18 (before 250 4) ≡ (1 ∷ []) ∷ (1 ∷ []) ∷ (2 ∷ 36 ∷ 0 ∷ []) ∷ (1 ∷ 37 ∷ 12 ∷ []) ∷ []
+unfolding times run start fate readHeader joinRefusal cutPacket commandFault controlFault response withCheck checkRight crc32c reflect register steps step
+last-250 = refl

@@ -1,5 +1,5 @@
 // Both ends in use, with the endpoint's eight calls and the requester's five: a controller, EID 9, and a drive's loop around the endpoint, EID 8, as
-// a board would have it. A command goes over in two packets, is taken, read and completed, and its response comes back in two. A control primitive
+// a board would have it, behind a bridge that carries 250 bytes. A command goes over in two packets, is taken, read and completed, and its response comes back in two. A control primitive
 // asks for a slot's state. Then a command whose sender falls silent is given up by a timeout, and a reset ends it. It prints each answer, and the
 // lengths of messages and packets.
 ghost use Prim.Native.Nat.{_<_, _≤_};
@@ -12,22 +12,27 @@ use controller::SendAnswer;
 use machine::Endpoint;
 use machine::PollAnswer;
 use machine::TakeAnswer;
-use machine::sizes::PACKET_ROOM;
+use machine::sizes::HEADER_SIZE;
 use machine::sizes::STORE_SIZE;
 
 const ENDPOINT_EID: u8 = 8;
 
 const REQUESTER_EID: u8 = 9;
 
+// The unit of both ends, as a bridge may carry it, and a buffer that takes every packet.
+const UNIT: usize = 250;
+
+const PACKET_ROOM: usize = UNIT + HEADER_SIZE;
+
 // Byte 1 of a message's header: an MI command for slot 0.
 const MI_FOR_SLOT_0: u8 = 0x08;
 
 // A command's bytes up to its check, and with it; the bytes of its two packets.
-const CHECK_PLACE: usize = 96;
+const CHECK_PLACE: usize = 296;
 
-const COMMAND_SIZE: usize = 100;
+const COMMAND_SIZE: usize = 300;
 
-const CUT_SIZE: usize = 108;
+const CUT_SIZE: usize = 308;
 
 // The message tags of the command and of the control primitive.
 const COMMAND_TAG: u8 = 1;
@@ -35,7 +40,7 @@ const COMMAND_TAG: u8 = 1;
 const CONTROL_TAG: u8 = 2;
 
 // The packets that one loop of polls hands out at most: both slots' longest responses, and a control reply behind each.
-const MOST_POLLS: usize = 264;
+const MOST_POLLS: usize = 4 * ((STORE_SIZE + UNIT - 1) / UNIT);
 
 fn say(what: &[u8], n: u64) {
     io::write_all(1, what);
@@ -69,7 +74,7 @@ fn received(endpoint: Endpoint, store0: &mut [u8], store1: &mut [u8], packet: &[
     done.endpoint
 }
 
-// Where the packet that starts at a place ends: each but the last has 68 bytes.
+// Where the packet that starts at a place ends: each but the last has a full payload.
 fn packet_end(at: usize, end: usize) -> usize
     requires { ⌜ at < end ⌝ }
     ensures { λ r. ⌜ (at < r) × (r ≤ end) ⌝ }
@@ -108,7 +113,7 @@ fn command_sent(
     store0: &mut [u8],
     store1: &mut [u8],
 ) -> Endpoint
-    requires { ⌜ Valid endpoint ⌝ }
+    requires { ⌜ Valid endpoint × ValidRequester requester ⌝ }
     ensures { λ r. ⌜ Valid r ⌝ }
 {
     let mut command = [0u8; COMMAND_SIZE];
@@ -131,7 +136,7 @@ fn primitive_sent(
     store0: &mut [u8],
     store1: &mut [u8],
 ) -> Endpoint
-    requires { ⌜ Valid endpoint ⌝ }
+    requires { ⌜ Valid endpoint × ValidRequester requester ⌝ }
     ensures { λ r. ⌜ Valid r ⌝ }
 {
     let asked = Primitive {
@@ -151,7 +156,7 @@ fn primitive_sent(
 
 // ---- The endpoint answers, and the controller gathers.
 
-// Takes the slot's command, looks at the request, and completes it with a status byte and 60 zeros.
+// Takes the slot's command, looks at the request, and completes it with a status byte and 260 zeros.
 fn answered(endpoint: Endpoint, store0: &mut [u8], store1: &mut [u8], slot: usize) -> Endpoint
     requires { ⌜ Valid endpoint ⌝ }
     ensures { λ r. ⌜ Valid r ⌝ }
@@ -163,7 +168,7 @@ fn answered(endpoint: Endpoint, store0: &mut [u8], store1: &mut [u8], slot: usiz
     };
     let request = endpoint::request(taken.endpoint, store0, store1, slot);
     say(b"request of ", request.len() as u64);
-    let body = [0u8; 61];
+    let body = [0u8; 261];
     let done = endpoint::complete(taken.endpoint, store0, store1, slot, ticket, &body);
     say(b"complete ", wide(done.answer));
     done.endpoint
@@ -260,7 +265,7 @@ fn all_sent(
     now
 }
 
-// A command whose first packet of 64 payload bytes came and no other: the clock's timeout ends it, and a reset finds nothing left.
+// A command whose first packet, with a full payload, came and no other: the clock's timeout ends it, and a reset finds nothing left.
 fn given_up(endpoint: Endpoint, store0: &mut [u8], store1: &mut [u8])
     requires { ⌜ Valid endpoint ⌝ }
 {
@@ -283,9 +288,9 @@ fn main() {
     let mut store0 = [0u8; STORE_SIZE];
     let mut store1 = [0u8; STORE_SIZE];
     let mut store = [0u8; STORE_SIZE];
-    let started = endpoint::setup(ENDPOINT_EID);
+    let started = endpoint::setup(ENDPOINT_EID, UNIT);
     say(b"setup ", wide(started.answer));
-    let ready = requester::setup(REQUESTER_EID);
+    let ready = requester::setup(REQUESTER_EID, UNIT);
     say(b"requester setup ", wide(ready.answer));
     let awaiting = awaited(ready.requester, COMMAND_TAG);
     let whole = command_sent(started.endpoint, awaiting, &mut store0, &mut store1);

@@ -7,12 +7,11 @@ use lib.Dec.{eqb}
 use lib.ListN.{length, take, drop, replicate}
 use Rattle.lent.specs.Bytes.{byteAt, put}
 use Rattle.lent.specs.Choice.{if_then_else_}
-use Rattle.log_records.specs.Records.{numberLine, packetLine, line-room}
+use Rattle.log_records.specs.Records.{numberLine, packetLine, log-unit, packet-room, line-room}
 use Rattle.machine.specs.State.{World, world, Outcome, ticket}
 use Rattle.machine.specs.Receive.{received}
 use Rattle.machine.specs.Finish.{taken, takeSays, completed, timedOut, wasReset, wasSetUp}
 use Rattle.machine.specs.Poll.{Polled, pollSays, polled}
-use Rattle.machine.specs.Wire.{packet-room}
 use Rattle.machine.specs.Valid.{Valid}
 use Rattle.machine.specs.declared.Ticket.{Ticket}
 use Rattle.machine.specs.declared.Endpoint.{Endpoint}
@@ -42,9 +41,9 @@ session e t0 t1 = record { endpoint = e; ticket0 = t0; ticket1 = t1 }
 abbrev pub withEndpoint : Session → Endpoint → Session
 withEndpoint s e = session e (s .ticket0) (s .ticket1)
 
--- EID 8, and no ticket taken
+-- EID 8, the unit 64, and no ticket taken
 abbrev pub atStart : Session
-atStart = session (wasSetUp 8 .endpoint) (ticket 0) (ticket 0)
+atStart = session (wasSetUp 8 log-unit .endpoint) (ticket 0) (ticket 0)
 
 -- any ticket for a slot above 1: it is refused with 30
 abbrev pub ticketOf : Session → ℕ → Ticket
@@ -91,7 +90,7 @@ byPoll s a b p = recordedTo (pollLine (p .buffer) (p .answer)) (withEndpoint s (
 abbrev pub packetRecorded : Session → List ℕ → List ℕ → List ℕ → Recorded
 packetRecorded s a b packet = byOutcome s (received (worldOf s a b) packet)
 
--- 2, with a buffer of 68 bytes
+-- 2, with a buffer that takes every packet
 abbrev pub pollRecorded : Session → List ℕ → List ℕ → Recorded
 pollRecorded s a b = byPoll s a b (polled (worldOf s a b) (replicate packet-room 0))
 

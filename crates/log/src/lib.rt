@@ -7,10 +7,11 @@ ghost use lib.ListN.{length};
 ghost use Rattle.lent.specs.Bytes.{put as Bytes·put};
 ghost use Rattle.machine.specs.Finish.{takeSays};
 ghost use Rattle.machine.specs.Valid.{Valid};
-ghost use Rattle.machine.specs.Wire.{packet-room};
 ghost use Rattle.machine.specs.declared.PollAnswer.{PollAnswer};
-ghost use Rattle.log_records.specs.Records.{line-room, isRecord};
+ghost use Rattle.log_records.specs.Records.{packet-room, line-room, isRecord};
 ghost use Rattle.log.specs.Log.{pollLine, withEndpoint, atStart, ticketOf, withTicket, ticketKept, byDone, recorded, packetRecorded, pollRecorded, timeoutRecorded, takeRecorded, completeRecorded, resetRecorded, Told};
+use log_records::PACKET_ROOM;
+use log_records::UNIT;
 use log_records::number_line;
 use log_records::packet_line;
 use log_records::wide;
@@ -20,7 +21,6 @@ use machine::PollAnswer;
 use machine::TakeAnswer;
 use machine::Ticket;
 use machine::answers;
-use machine::sizes::PACKET_ROOM;
 
 // The log program's endpoint.
 const EID: u8 = 8;
@@ -203,7 +203,7 @@ fn reset_record(session: Session, line: &mut [u8]) -> Answer
 pub fn begin() -> Session
     ensures { λ r. ⌜ (r ≡ atStart) × Valid (r .endpoint) ⌝ }
 {
-    let done = endpoint::setup(EID);
+    let done = endpoint::setup(EID, UNIT);
     let endpoint = done.endpoint;
     Session {
         endpoint,

@@ -71,6 +71,13 @@ numberLine n = decimal n ++ (newline ∷ [])
 abbrev pub packetLine : ℕ → List ℕ → List ℕ
 packetLine n packet = decimal n ++ (32 ∷ (hex packet ++ (newline ∷ [])))
 
--- room for every line: that of a packet of 68 bytes is the longest
+-- "01's cases and log keep U 64": the log program's own unit, and its longest packet
+abbrev pub log-unit : ℕ
+log-unit = 64
+
+abbrev pub packet-room : ℕ
+packet-room = log-unit + 4
+
+-- room for every line: that of the longest packet, a number, a space, two digits a byte and the newline
 abbrev pub line-room : ℕ
-line-room = 139
+line-room = 2 * packet-room + 3

@@ -4,7 +4,7 @@ ghost use mathlib.Core.List.{[], _∷_};
 ghost use Prim.Native.Nat.{_+_, _*_, _≤_, _<_};
 ghost use lib.ListN.{length};
 ghost use Rattle.lent.specs.Bytes.{put as Bytes·put};
-ghost use Rattle.log_records.specs.Records.{line-room, isRecord, headed, hexDigit, hex as Records·hex, numberLine, packetLine};
+ghost use Rattle.log_records.specs.Records.{packet-room, line-room, isRecord, headed, hexDigit, hex as Records·hex, numberLine, packetLine};
 
 // Tags of records.
 pub const PACKET: u8 = 1;
@@ -25,8 +25,13 @@ pub const HEAD_SIZE: usize = 3;
 // The longest record's bytes, without tag and length.
 const LONGEST: usize = 4300;
 
-// Room for every line.
-pub const LINE_ROOM: usize = 139;
+// The log program's own unit. A packet has four bytes before its payload.
+pub const UNIT: usize = 64;
+
+pub const PACKET_ROOM: usize = UNIT + 4;
+
+// Room for every line: that of the longest packet.
+pub const LINE_ROOM: usize = 2 * PACKET_ROOM + 3;
 
 const NEWLINE: u8 = 10;
 
@@ -133,7 +138,7 @@ fn hex(out: &mut [u8], at: usize, bytes: &[u8])
 
 // Writes the line of a poll that sends, 1 and the packet, and returns the line's length.
 pub fn packet_line(line: &mut [u8], packet: &[u8]) -> usize
-    requires { ⌜ (line-room ≤ length (now line)) × (length (now packet) ≤ 68) ⌝ }
+    requires { ⌜ (line-room ≤ length (now line)) × (length (now packet) ≤ packet-room) ⌝ }
     ensures { λ r. ⌜ (r ≡ length (packetLine 1 (now (packet .entry)))) × (r ≤ line-room) ⌝ }
     ensures { λ _. ⌜ now (line .exit) ≡ Bytes·put (now (line .entry)) 0 (packetLine 1 (now (packet .entry))) ⌝ }
 {

@@ -1,25 +1,27 @@
 -- A response that is there goes out whole, also where it first waits under its slot's pause flag.
 -- Assumes nothing.
-use Prim.Native.Nat.{ℕ, zero, suc, _+_, _≤_}
+use Prim.Native.Nat.{ℕ, zero, suc, _+_, _≤_, _<_}
 use mathlib.Core.Path.{_≡_, refl, sym, ap, _∙_}
 use mathlib.Core.Bool.{Bool, true, false, not, _&&_}
 use mathlib.Core.List.{List, [], _∷_}
+use native.Mathlib.Nat.{mul-zero}
 use native.Mathlib.Omega.{arith}
-use lib.Dec.{eqb, leb}
+use lib.Dec.{eqb}
 use lib.ListN.{length}
 use Rattle.lent.specs.Choice.{if_then_else_}
 use Rattle.lent.proofs.Choice.{if-ind, false-true}
+use Rattle.mctp.proofs.Laws.{packets-bounds}
 use Rattle.nvme_mi.specs.Check.{withCheck}
 use Rattle.machine.specs.State.{World, outgoing, slotAt, storeAt}
 use Rattle.machine.specs.Valid.{PhaseFacts}
 use Rattle.machine.specs.Calls.{Call, receive, complete, poll, isPlain, Event, number, given, part-read, handed-out, Stepped, step}
-use Rattle.machine.specs.History.{Trace, History, phaseAt, pausedAt, isTransmit, isPacketOf, isFor, requestWith, responseFor, fixedAtEntry, commanded, transmitted, counts, next, run, start, cuts, packetsLeft, lastPacketOut}
-use Rattle.machine.specs.Demands.{cut, delivered, fate, Within, pollsFor, isProcess, AnswerArrives, ErrorArrives}
+use Rattle.machine.specs.History.{Trace, History, phaseAt, pausedAt, isTransmit, isPacketOf, isFor, requestWith, responseFor, fixedAtEntry, commanded, transmitted, counts, next, run, start, cuts, packetsLeft, lastPacketOut, unitOf, hasRoom}
+use Rattle.machine.specs.Demands.{cut, delivered, fate, Within, pollsFor, mostPolls, isProcess, AnswerArrives, ErrorArrives}
 use Rattle.machine.specs.Types.{Ticket, Response, Outgoing, Phase, Idle, Receive, Process, Answered, Transmit}
 use Rattle.machine.proofs.Slots.{isEarly, facts-at}
 use Rattle.machine.proofs.Fits.{Asked, Steady, same, newly, released, handed-over, worked, fell, settled-late, There, waits, goes, answered-not}
 use Rattle.machine.proofs.Polling.{PollCase, still, replies, sends, poll-case}
-use Rattle.machine.proofs.Histories.{Good, by-kind, plain-carries, good-next, good-every}
+use Rattle.machine.proofs.Histories.{Good, by-kind, plain-carries, next-unit, good-next, good-every}
 use Rattle.machine.proofs.Tickets.{accepted, completes}
 use Rattle.machine.proofs.Responses.{came-in-so, response-kept}
 use Rattle.machine.proofs.Delivery.{mute, from-here, within-more}
@@ -36,8 +38,8 @@ paused-second true false = refl
 paused-second false a = refl
 
 held-poll : (i : ℕ) → i ≤ 1 → (buffer : List ℕ) (w : World) → pausedAt w i ≡ true → counts (poll buffer) w ≡ false
-held-poll zero is buffer w e = rw e (paused-first (leb 68 (length buffer)) (pausedAt w 1))
-held-poll (suc zero) is buffer w e = rw e (paused-second (leb 68 (length buffer)) (pausedAt w 0))
+held-poll zero is buffer w e = rw e (paused-first (hasRoom w buffer) (pausedAt w 1))
+held-poll (suc zero) is buffer w e = rw e (paused-second (hasRoom w buffer) (pausedAt w 0))
 held-poll (suc (suc n)) is buffer w e = absurd (omega arith)
 
 held : (i : ℕ) → i ≤ 1 → (c : Call) (w : World) → pausedAt w i ≡ true → counts c w ≡ false
@@ -63,7 +65,7 @@ not-last i c h r a = go (phaseAt (h .world) i) a
     go p e = rw (e, not-packet r (phaseAt (next c h .world) i) (step c (h .world) .event)) refl
 
 flag-set : (i : ℕ) → i ≤ 1 → (h : History) → Good h → (r : Response) → phaseAt (h .world) i ≡ Answered r → pausedAt (h .world) i ≡ true
-flag-set i is h g r a = let f : PhaseFacts (slotAt (h .world .endpoint) i .paused) (Answered r) = rw a at (facts-at i is (g .sound .state)) in f .0
+flag-set i is h g r a = let f : PhaseFacts (unitOf (h .world)) (slotAt (h .world .endpoint) i .paused) (Answered r) = rw a at (facts-at i is (g .sound .state)) in f .0
 
 -- ---- a response that waits
 
@@ -98,15 +100,15 @@ after i is c h g n r a =
 -- ---- along the list
 
 abbrev Goes : ℕ → ℕ → List ℕ → List Call → Type 0
-Goes i most response ys = (h : History) → Good h → There (phaseAt (h .world) i) → h .trace i .response ≡ response → h .counted + 264 ≤ most → Within most i response (fate i ys h)
+Goes i most response ys = (h : History) → Good h → There (phaseAt (h .world) i) → h .trace i .response ≡ response → h .counted + mostPolls (unitOf (h .world)) ≤ most → Within most i response (fate i ys h)
 
 -- it is being sent
 sent-out : (i most : ℕ) (response : List ℕ) → i ≤ 1 → (ys : List Call) (h : History) → Good h → (r : Outgoing) → phaseAt (h .world) i ≡ Transmit r
-    → h .trace i .response ≡ response → h .counted + 264 ≤ most → Within most i response (fate i ys h)
+    → h .trace i .response ≡ response → h .counted + mostPolls (unitOf (h .world)) ≤ most → Within most i response (fate i ys h)
 sent-out i most response is ys h g r t k b =
     let d = from-here i is h g r t ys in
-    within-more i (h .counted + pollsFor (packetsLeft i h)) most response (fate i ys h) (omega (arith, d .1))
-    (about (h .counted + pollsFor (packetsLeft i h)) (h .trace i .response) k (d .2))
+    within-more i (h .counted + pollsFor (unitOf (h .world)) (packetsLeft i h)) most response (fate i ys h) (omega (arith, d .1))
+    (about (h .counted + pollsFor (unitOf (h .world)) (packetsLeft i h)) (h .trace i .response) k (d .2))
   where
     about : (n : ℕ) (x : List ℕ) → x ≡ response → Within n i x (fate i ys h) → Within n i response (fate i ys h)
     about n x e w = rw (sym e) w
@@ -121,12 +123,19 @@ goes-on i most response is c cs rest h g (waits r a) k b = by (cuts i c (h .worl
     by true e = tt
     by false e =
         let n = counted-same i is c h (flag-set i is h g r a) in
+        let u = ap mostPolls (next-unit c h g) in
         rw (not-last i c h r a)
-        (rest (next c h) (good-next c h g) (after i is c h g e r a) (response-kept i is c h g (ap isEarly a) (ap isProcess a) ∙ k) (omega (arith, n)))
+        (rest (next c h) (good-next c h g) (after i is c h g e r a) (response-kept i is c h g (ap isEarly a) (ap isProcess a) ∙ k) (omega (arith, n, u)))
+
+-- some polls are always allowed
+some-polls : (h : History) → Good h → 0 < mostPolls (unitOf (h .world))
+some-polls h g =
+    let n = g .sound .state .numbers in
+    omega (arith, packets-bounds (unitOf (h .world)) 4224 0 (omega (arith, n .unit-least)) .1 (rw mul-zero (omega arith)))
 
 pub goes-out : (i most : ℕ) (response : List ℕ) → i ≤ 1 → (ys : List Call) → Goes i most response ys
 unfolding fate
-goes-out i most response is [] h g t k b = omega arith
+goes-out i most response is [] h g t k b = omega (arith, some-polls h g)
 goes-out i most response is (c ∷ cs) h g t k b = goes-on i most response is c cs (goes-out i most response is cs) h g t k b
 
 -- ---- a response that the history has is there, where its slot is in Process or behind it
@@ -181,14 +190,14 @@ unfolding next
 complete-uncounted h i t body = omega arith
 
 pub answer-arrives : AnswerArrives
-answer-arrives eid store0 store1 a b xs ys i is t body e =
-    let h = run xs (start eid store0 store1) in
-    let g = good-every eid store0 store1 a b xs in
+answer-arrives eid unit store0 store1 a b xs ys i is t body e =
+    let h = run xs (start eid unit store0 store1) in
+    let g = good-every eid unit store0 store1 a b xs in
     let g₁ = good-next (complete i t body) h g in
     let fixed = completes h i t body e in
-    goes-out i (h .counted + 264) (responseFor i (h .trace i .request) body) is ys (next (complete i t body) h) g₁
+    goes-out i (h .counted + mostPolls (unitOf (h .world))) (responseFor i (h .trace i .request) body) is ys (next (complete i t body) h) g₁
     (there-by i is (next (complete i t body) h) g₁ (complete-late h g i is t body e) (λ n. filled i (h .trace i .request) body (sym fixed ∙ n)))
-    fixed (omega (arith, complete-uncounted h i t body))
+    fixed (omega (arith, complete-uncounted h i t body, ap mostPolls (next-unit (complete i t body) h g)))
 
 -- ---- an error at entry
 
@@ -213,11 +222,11 @@ entry-trace h i p e k =
     sent x y v l f = if-ind After (not (isTransmit x) && isTransmit y) (λ _. f) (λ _. if-ind After (isPacketOf x y v) (λ _. f) (λ _. f))
 
 pub error-arrives : ErrorArrives
-error-arrives eid store0 store1 a b xs ys i is p e k some =
-    let h = run xs (start eid store0 store1) in
-    let g = good-every eid store0 store1 a b xs in
+error-arrives eid unit store0 store1 a b xs ys i is p e k some =
+    let h = run xs (start eid unit store0 store1) in
+    let g = good-every eid unit store0 store1 a b xs in
     let g₁ = good-next (receive p) h g in
     let l = entry-trace h i p e k in
-    goes-out i (h .counted + 264) (fixedAtEntry i (requestWith p (h .trace i))) is ys (next (receive p) h) g₁
+    goes-out i (h .counted + mostPolls (unitOf (h .world))) (fixedAtEntry i (requestWith p (h .trace i))) is ys (next (receive p) h) g₁
     (there-by i is (next (receive p) h) g₁ (came-in-so i is (receive p) h g (l .1) .1) (λ n. some (sym (l .0) ∙ n)))
-    (l .0) (omega (arith, receive-uncounted h p))
+    (l .0) (omega (arith, receive-uncounted h p, ap mostPolls (next-unit (receive p) h g)))

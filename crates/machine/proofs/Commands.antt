@@ -35,7 +35,7 @@ use Rattle.machine.proofs.Places.{Which, this, that, which, slot-that}
 use Rattle.machine.proofs.Fits.{takesOf, Asked, Fit, Entry, entered as came, stayed, Steady, same, newly, released, handed-over, worked, fell, There, settled-there, answered-not, some-response, atEntry, fixed-is}
 use Rattle.machine.proofs.Received.{Mid, for-this, in-process, whole-is, size-is, start-mid, ended-mid, w₂, command}
 use Rattle.machine.proofs.Polling.{PollCase, still, replies, sends, poll-case}
-use Rattle.machine.proofs.Histories.{Good, by-kind, plain-carries, kept-by, good-every}
+use Rattle.machine.proofs.Histories.{Good, by-kind, plain-carries, kept-by, good-every, next-unit, for-unit}
 use Rattle.machine.proofs.Tickets.{gave}
 use Rattle.machine.proofs.Responses.{Turned, kept, came-in, answered as answered-by, turned, came-in-so}
 use Rattle.machine.proofs.Arrives.{filled as response-filled}
@@ -50,7 +50,7 @@ check-right m n e =
     record { enough = n; checked = eqb-true _ _ (k .1) }
 
 module _ (w₀ : World) (p : List ℕ) (trace : ℕ → Trace) (s₀ : Sound w₀)
-    (fits : (j : ℕ) → j ≤ 1 → Fit (slotAt (w₀ .endpoint) j) (storeAt w₀ j) (trace j)) where
+    (fits : (j : ℕ) → j ≤ 1 → Fit (w₀ .endpoint .unit) (slotAt (w₀ .endpoint) j) (storeAt w₀ j) (trace j)) where
   abbrev Said : Outcome → Type 0
   Said o = o .answer ≡ 1 → Accepted w₀ trace p (o .world)
 
@@ -121,9 +121,9 @@ same-number e = cc
 
 pub accepted-right : AcceptedRight
 unfolding step
-accepted-right eid store0 store1 a b xs p e =
-    let h = run xs (start eid store0 store1) in
-    let g = good-every eid store0 store1 a b xs in
+accepted-right eid unit store0 store1 a b xs p e =
+    let h = run xs (start eid unit store0 store1) in
+    let g = good-every eid unit store0 store1 a b xs in
     received-right (h .world) p (h .trace) (g .sound) (g .fits) (same-number e)
 
 -- ---- completing
@@ -158,16 +158,16 @@ completes-so w s i t body e =
     by right = unfold completed in (rw right (if-ind Says (not (isSlot i)) (λ _ q. absurd (omega arith)) (λ h. into (slot-most i h) (phaseAt w i) refl)))
 
 -- what the trace has of a command in Process
-asked-by : (s : Slot) (store : List ℕ) (l : Trace) (r : Request) → Fit s store l → s .phase ≡ Process r → Asked r store l
+asked-by : {unit : ℕ} (s : Slot) (store : List ℕ) (l : Trace) (r : Request) → Fit unit s store l → s .phase ≡ Process r → Asked r store l
 asked-by s store l r f e = rw e at (f .phase-fits)
 
 asked-at : (h : History) → Good h → (i : ℕ) → i ≤ 1 → (r : Request) → phaseAt (h .world) i ≡ Process r → Asked r (storeAt (h .world) i) (h .trace i)
 asked-at h g i is r p = asked-by (slotAt (h .world .endpoint) i) (storeAt (h .world) i) (h .trace i) r (g .fits i is) p
 
 pub fixed-once : FixedOnce
-fixed-once eid store0 store1 a b xs i t body e =
-    let h = run xs (start eid store0 store1) in
-    let g = good-every eid store0 store1 a b xs in
+fixed-once eid unit store0 store1 a b xs i t body e =
+    let h = run xs (start eid unit store0 store1) in
+    let g = good-every eid unit store0 store1 a b xs in
     let k = completes-so (h .world) (g .sound) i t body e in
     asked-at h g i (k .slot-is) (k .request) (k .in-process) .unfixed
 
@@ -200,9 +200,9 @@ reads-so h g i = rw (right-stores (h .world) (g .sound)) (ap part-read (by (isSl
     by false e = refl
 
 pub taken-first : TakenFirst
-taken-first eid store0 store1 a b xs i =
-    let h = run xs (start eid store0 store1) in
-    let g = good-every eid store0 store1 a b xs in
+taken-first eid unit store0 store1 a b xs i =
+    let h = run xs (start eid unit store0 store1) in
+    let g = good-every eid unit store0 store1 a b xs in
     record {
       once = λ t e. let k = gave (h .world) (g .sound) i t e in asked-at h g i (k .slot-is) (k .request) (k .in-process) .takes-are ∙ ap takesOf (k .untaken);
       first = λ t body e. let k = completes-so (h .world) (g .sound) i t body e in asked-at h g i (k .slot-is) (k .request) (k .in-process) .takes-are ∙ ap takesOf (k .taken-is);
@@ -223,7 +223,7 @@ module _ (h : History) (g : Good h) (i : ℕ) (is : i ≤ 1) (r : Request) (p : 
       before : Asked r (storeAt (h .world) i) (h .trace i)
       before = asked-at h g i is r p
 
-      fit : Fit (slotAt (step c (h .world) .world .endpoint) i) (storeAt (step c (h .world) .world) i) (traceAfter i c (h .world) (step c (h .world)) (h .trace i))
+      fit : Fit (h .world .endpoint .unit) (slotAt (step c (h .world) .world .endpoint) i) (storeAt (step c (h .world) .world) i) (traceAfter i c (h .world) (step c (h .world)) (h .trace i))
       fit = kept-by c h g i is .fit
 
       now-asked : Asked x (storeAt (step c (h .world) .world) i) (traceAfter i c (h .world) (step c (h .world)) (h .trace i))
@@ -251,7 +251,9 @@ module _ (h : History) (g : Good h) (i : ℕ) (is : i ≤ 1) (r : Request) (p : 
   completed-by c t = by (turned i c h)
     where
       response : traceAfter i c (h .world) (step c (h .world)) (h .trace i) .response ≡ [] → ⊥
-      response none = some-response _ _ _ (kept-by c h g i is .fit) (facts-at i is (step-sound c (h .world) (g .sound) .state)) t none
+      response none =
+          let units : step c (h .world) .world .endpoint .unit ≡ h .world .endpoint .unit = unfold next in (next-unit c h g) in
+          some-response _ _ _ (for-unit units (kept-by c h g i is .fit)) (facts-at i is (step-sound c (h .world) (g .sound) .state)) t none
 
       by : Turned i c h (step c (h .world) .event) (h .trace i) (next c h .trace i) → Stays h c i r
       by (kept a b) = absurd (response (unfold next in (a ∙ asked-at h g i is r p .unfixed)))
@@ -286,15 +288,15 @@ module _ (h : History) (g : Good h) (i : ℕ) (is : i ≤ 1) (r : Request) (p : 
       by (replies _ _) = refl
       by (sends k q c counted) = at (chosen-at (h .world .endpoint) (g .sound .state) c)
         where
-          at : Chosen (h .world .endpoint) k q → slotAt (withSlot (h .world .endpoint) k (afterPacket (slotAt (h .world .endpoint) k) q)) i .phase ≡ phaseAt (h .world) i
+          at : Chosen (h .world .endpoint) k q → slotAt (withSlot (h .world .endpoint) k (afterPacket (h .world .endpoint .unit) (slotAt (h .world .endpoint) k) q)) i .phase ≡ phaseAt (h .world) i
           at o = go (which k i (o .slot-is) is)
             where
-              go : Which k i → slotAt (withSlot (h .world .endpoint) k (afterPacket (slotAt (h .world .endpoint) k) q)) i .phase ≡ phaseAt (h .world) i
+              go : Which k i → slotAt (withSlot (h .world .endpoint) k (afterPacket (h .world .endpoint .unit) (slotAt (h .world .endpoint) k) q)) i .phase ≡ phaseAt (h .world) i
               go (this e) = sending-not {r = r} {x = q} (sym p ∙ rw e (o .sends))
-              go (that e) = rw e (ap (λ (s : Slot). s .phase) (slot-that k (o .slot-is) (g .sound .state) (afterPacket (slotAt (h .world .endpoint) k) q)))
+              go (that e) = rw e (ap (λ (s : Slot). s .phase) (slot-that k (o .slot-is) (g .sound .state) (afterPacket (h .world .endpoint .unit) (slotAt (h .world .endpoint) k) q)))
 
   stays : (c : Call) → Stays h c i r
   stays = by-kind (λ (c : Call). Stays h c i r) plain-stays poll-stays (cut-off refl)
 
 pub command-stays : CommandStays
-command-stays eid store0 store1 a b xs c i is r p = stays (run xs (start eid store0 store1)) (good-every eid store0 store1 a b xs) i is r p c
+command-stays eid unit store0 store1 a b xs c i is r p = stays (run xs (start eid unit store0 store1)) (good-every eid unit store0 store1 a b xs) i is r p c

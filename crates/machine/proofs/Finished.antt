@@ -30,7 +30,7 @@ use Rattle.machine.proofs.Fits.{takesOf, Asked, Fit, stayed, handed-ove
 use Rattle.machine.proofs.Received.{Carries}
 
 module _ (w₀ : World) (trace : ℕ → Trace) (s₀ : Sound w₀)
-    (fits : (j : ℕ) → j ≤ 1 → Fit (slotAt (w₀ .endpoint) j) (storeAt w₀ j) (trace j)) where
+    (fits : (j : ℕ) → j ≤ 1 → Fit (w₀ .endpoint .unit) (slotAt (w₀ .endpoint) j) (storeAt w₀ j) (trace j)) where
   -- ---- taking
 
   took : (i : ℕ) → i ≤ 1 → (r : Request) → phaseAt w₀ i ≡ Process r → r .taking ≡ Untaken
@@ -40,7 +40,7 @@ module _ (w₀ : World) (trace : ℕ → Trace) (s₀ : Sound w₀)
       s : Slot
       s = withPhase (slotAt (w₀ .endpoint) i) (Process (takenRequest r))
 
-      this-one : Carried (false ≡ true) (slotAt (w₀ .endpoint) i) (withPhase (slotAt (w₀ .endpoint) i) (Process (takenRequest r))) (storeAt w₀ i) (trace i)
+      this-one : Carried (w₀ .endpoint .unit) (false ≡ true) (slotAt (w₀ .endpoint) i) (withPhase (slotAt (w₀ .endpoint) i) (Process (takenRequest r))) (storeAt w₀ i) (trace i)
           (transmitted (phaseAt w₀ i) (Process (takenRequest r)) (number 0) (taking (trace i)))
       this-one =
           let k : Asked r (storeAt w₀ i) (trace i) = rw p at (fits i is .phase-fits) in
@@ -57,7 +57,7 @@ module _ (w₀ : World) (trace : ℕ → Trace) (s₀ : Sound w₀)
           })
 
       at : (j : ℕ) → j ≤ 1 → Which i j
-          → Carried (false ≡ true) (slotAt (w₀ .endpoint) j) (slotAt (withSlot (w₀ .endpoint) i (withPhase (slotAt (w₀ .endpoint) i) (Process (takenRequest r)))) j) (storeAt w₀ j) (trace j)
+          → Carried (w₀ .endpoint .unit) (false ≡ true) (slotAt (w₀ .endpoint) j) (slotAt (withSlot (w₀ .endpoint) i (withPhase (slotAt (w₀ .endpoint) i) (Process (takenRequest r)))) j) (storeAt w₀ j) (trace j)
           (transmitted (phaseAt w₀ j) (slotAt (withSlot (w₀ .endpoint) i (withPhase (slotAt (w₀ .endpoint) i) (Process (takenRequest r)))) j .phase) (number 0)
           (if eqb i j then taking (trace j) else trace j))
       at j js (this q) = rw (q, slot-this i is (s₀ .state) (withPhase (slotAt (w₀ .endpoint) i) (Process (takenRequest r))), eq-eqb i i refl) this-one
@@ -118,7 +118,7 @@ module _ (w₀ : World) (trace : ℕ → Trace) (s₀ : Sound w₀)
       lies : take (length body + 8) (put (storeAt w₀ i) response-place text) ≡ text
       lies = rw (sym n) (take-put (storeAt w₀ i) text)
 
-      this-one : Carried (false ≡ true) (slotAt (w₀ .endpoint) i) s (put (storeAt w₀ i) response-place text) (trace i)
+      this-one : Carried (w₀ .endpoint .unit) (false ≡ true) (slotAt (w₀ .endpoint) i) s (put (storeAt w₀ i) response-place text) (trace i)
           (transmitted (phaseAt w₀ i) (s .phase) (number 0) (completing i body (trace i)))
       this-one =
           let b = slotAt (w₀ .endpoint) i .paused in
@@ -127,7 +127,7 @@ module _ (w₀ : World) (trace : ℕ → Trace) (s₀ : Sound w₀)
           (stayed refl (λ h. false-true (sym (settled-process b (responseTo r body)) ∙ h))) (worked r b (responseTo r body) p refl)
 
       at : (j : ℕ) → j ≤ 1 → Which i j
-          → Carried (false ≡ true) (slotAt (w₀ .endpoint) j) (slotAt (withSlot (w₀ .endpoint) i s) j) (storeAt (withStore w₀ i (put (storeAt w₀ i) response-place text)) j) (trace j)
+          → Carried (w₀ .endpoint .unit) (false ≡ true) (slotAt (w₀ .endpoint) j) (slotAt (withSlot (w₀ .endpoint) i s) j) (storeAt (withStore w₀ i (put (storeAt w₀ i) response-place text)) j) (trace j)
           (transmitted (phaseAt w₀ j) (slotAt (withSlot (w₀ .endpoint) i s) j .phase) (number 0) (commanded j (complete i t body) w₀ (number 0) (trace j)))
       at j js (this q) = rw (q, slot-this i is v s, store-this w₀ i is (put (storeAt w₀ i) response-place text), eq-eqb i i refl) this-one
       at j js (that q) =
@@ -187,7 +187,7 @@ module _ (w₀ : World) (trace : ℕ → Trace) (s₀ : Sound w₀)
       s = idled (slotAt (w₀ .endpoint) i)
 
       at : i ≤ 1 → isEarly (phaseAt w₀ i) ≡ true → (j : ℕ) → j ≤ 1 → Which i j
-          → Carried (false ≡ true) (slotAt (w₀ .endpoint) j) (slotAt (withSlot (w₀ .endpoint) i s) j) (storeAt w₀ j) (trace j)
+          → Carried (w₀ .endpoint .unit) (false ≡ true) (slotAt (w₀ .endpoint) j) (slotAt (withSlot (w₀ .endpoint) i s) j) (storeAt w₀ j) (trace j)
           (transmitted (phaseAt w₀ j) (slotAt (withSlot (w₀ .endpoint) i s) j .phase) (number 0) (trace j))
       at is early j js (this q) = rw (q, slot-this i is (s₀ .state) s) (carried-ended (storeAt w₀ i) 0 early refl refl (fits i is .ticket-is))
       at is early j js (that q) = rw (q, slot-that i is (s₀ .state) s) (carried-same 0 refl refl (fits (otherSlot i) (other-most i)))
@@ -195,7 +195,7 @@ module _ (w₀ : World) (trace : ℕ → Trace) (s₀ : Sound w₀)
   -- ---- reset: both slots are cut off, and keep their ticket counts
 
   pub reset-carried : (j : ℕ) → j ≤ 1
-      → Carried (true ≡ true) (slotAt (w₀ .endpoint) j) (slotAt (wasReset (w₀ .endpoint) .endpoint) j) (storeAt w₀ j) (trace j)
+      → Carried (w₀ .endpoint .unit) (true ≡ true) (slotAt (w₀ .endpoint) j) (slotAt (wasReset (w₀ .endpoint) .endpoint) j) (storeAt w₀ j) (trace j)
       (transmitted (phaseAt w₀ j) (slotAt (wasReset (w₀ .endpoint) .endpoint) j .phase) (number 0) (trace j))
   unfolding wasReset
   reset-carried zero js = carried-cut (storeAt w₀ 0) 0 refl refl refl (fits 0 js .ticket-is)

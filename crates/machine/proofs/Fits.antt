@@ -4,7 +4,7 @@ use Prim.Native.Nat.{ℕ, _+_, _*_, _/_, _%_, _^_, _≤_}
 use mathlib.Core.Path.{_≡_, refl, ap}
 use mathlib.Core.Bool.{Bool, true, false, not}
 use mathlib.Core.List.{List, [], _∷_}
-use native.Mathlib.Nat.{mod-lt, mod-eq-of-lt, zero-lt-suc}
+use native.Mathlib.Nat.{mul-zero, mod-lt, mod-eq-of-lt, zero-lt-suc}
 use native.Mathlib.Omega.{arith}
 use lib.Dec.{ltb}
 use lib.ListN.{length, take}
@@ -17,7 +17,6 @@ use Rattle.nvme_mi.specs.Response.{response, faultBody}
 use Rattle.nvme_mi.specs.declared.Fault.{Fault}
 use Rattle.nvme_mi.specs.declared.Fault.the-variants.{NoFault, Parameter, Failure}
 use Rattle.machine.specs.State.{World, outgoing, settled}
-use Rattle.machine.specs.Wire.{unit}
 use Rattle.machine.specs.Finish.{takenRequest}
 use Rattle.machine.specs.Calls.{receive, number}
 use Rattle.machine.specs.Valid.{isBegun, PhaseFacts}
@@ -50,7 +49,7 @@ pub record Full (r : Response) (store : List ℕ) (l : Trace) : Type 0 where
   pub to : r .requester ≡ l .requester
   pub under : r .tag ≡ l .tag
 
-pub record Going (r : Outgoing) (store : List ℕ) (l : Trace) : Type 0 where
+pub record Going (unit : ℕ) (r : Outgoing) (store : List ℕ) (l : Trace) : Type 0 where
   pub full : Full (r .response) store l
   pub paid : l .payloads ≡ take (unit * r .sent) (l .response)
   pub count : l .packets ≡ r .sent
@@ -60,15 +59,15 @@ abbrev pub FitH : Held → List ℕ → Trace → Type 0
 FitH NoResponse store l = Unit {0}
 FitH (Last r) store l = Full r store l
 
-abbrev pub FitP : Phase → List ℕ → Trace → Type 0
-FitP (Idle k) store l = FitH k store l
-FitP (Receive a) store l = take (a .length) store ≡ l .request
-FitP (Process r) store l = Asked r store l
-FitP (Answered r) store l = Full r store l
-FitP (Transmit r) store l = Going r store l
+abbrev pub FitP : ℕ → Phase → List ℕ → Trace → Type 0
+FitP unit (Idle k) store l = FitH k store l
+FitP unit (Receive a) store l = take (a .length) store ≡ l .request
+FitP unit (Process r) store l = Asked r store l
+FitP unit (Answered r) store l = Full r store l
+FitP unit (Transmit r) store l = Going unit r store l
 
-pub record Fit (s : Slot) (store : List ℕ) (l : Trace) : Type 0 where
-  pub phase-fits : FitP (s .phase) store l
+pub record Fit (unit : ℕ) (s : Slot) (store : List ℕ) (l : Trace) : Type 0 where
+  pub phase-fits : FitP unit (s .phase) store l
   pub ticket-is : s .ticket .0 ≡ l .entries % 2 ^ 32
 
 -- ---- what a call does to a slot's entries and request
@@ -87,8 +86,8 @@ pub data Steady (C : Type 0) (p q : Phase) : Type 0 where
   worked : (r : Request) (b : Bool) (x : Response) → p ≡ Process r → q ≡ settled b x → Steady C p q
   fell : C → q ≡ Idle NoResponse → Steady C p q
 
-pub record Carried (C : Type 0) (s t : Slot) (store : List ℕ) (l m : Trace) : Type 0 where
-  pub fit : Fit t store m
+pub record Carried (unit : ℕ) (C : Type 0) (s t : Slot) (store : List ℕ) (l m : Trace) : Type 0 where
+  pub fit : Fit unit t store m
   pub entry : Entry (s .phase) (t .phase) l m
   pub steady : Steady C (s .phase) (t .phase)
 
@@ -109,9 +108,9 @@ refusal-trace j p w n l h = rw (ne-eqb n 0 (λ e. omega arith), ne-eqb n 1 (λ e
 
 -- ---- a slot that a call leaves alone, or that falls back to Idle
 
-pub carried-same : {C : Type 0} {s t : Slot} {store : List ℕ} {l : Trace} (n : ℕ) → t .phase ≡ s .phase → t .ticket ≡ s .ticket → Fit s store l
-    → Carried C s t store l (transmitted (s .phase) (t .phase) (number n) l)
-carried-same {C} {s} {t} {store} {l} n e k f =
+pub carried-same : {unit : ℕ} {C : Type 0} {s t : Slot} {store : List ℕ} {l : Trace} (n : ℕ) → t .phase ≡ s .phase → t .ticket ≡ s .ticket → Fit unit s store l
+    → Carried unit C s t store l (transmitted (s .phase) (t .phase) (number n) l)
+carried-same {unit} {C} {s} {t} {store} {l} n e k f =
     rw (quiet-same (s .phase) (t .phase) n l e)
     (record {
       fit = record { phase-fits = rw e (f .phase-fits); ticket-is = rw k (f .ticket-is) };
@@ -126,9 +125,9 @@ idle-process : {A : Type 0} {q : Phase} → q ≡ Idle NoResponse → isProcess 
 idle-process e h = false-true (rw e at h)
 
 -- the store may have changed
-carried-idle : {C : Type 0} {s t : Slot} (store : List ℕ) {l : Trace} (n : ℕ) → t .phase ≡ Idle NoResponse → t .ticket ≡ s .ticket → s .ticket .0 ≡ l .entries % 2 ^ 32
-    → Steady C (s .phase) (t .phase) → Carried C s t store l (transmitted (s .phase) (t .phase) (number n) l)
-carried-idle {C} {s} {t} store {l} n e k f g =
+carried-idle : {unit : ℕ} {C : Type 0} {s t : Slot} (store : List ℕ) {l : Trace} (n : ℕ) → t .phase ≡ Idle NoResponse → t .ticket ≡ s .ticket → s .ticket .0 ≡ l .entries % 2 ^ 32
+    → Steady C (s .phase) (t .phase) → Carried unit C s t store l (transmitted (s .phase) (t .phase) (number n) l)
+carried-idle {unit} {C} {s} {t} store {l} n e k f g =
     rw (quiet-other (s .phase) (t .phase) n l (idle-not e))
     (record {
       fit = record { phase-fits = rw e tt; ticket-is = rw k f };
@@ -136,24 +135,24 @@ carried-idle {C} {s} {t} store {l} n e k f g =
       steady = g;
     })
 
-pub carried-ended : {C : Type 0} {s t : Slot} (store : List ℕ) {l : Trace} (n : ℕ) → isEarly (s .phase) ≡ true → t .phase ≡ Idle NoResponse → t .ticket ≡ s .ticket
-    → s .ticket .0 ≡ l .entries % 2 ^ 32 → Carried C s t store l (transmitted (s .phase) (t .phase) (number n) l)
+pub carried-ended : {unit : ℕ} {C : Type 0} {s t : Slot} (store : List ℕ) {l : Trace} (n : ℕ) → isEarly (s .phase) ≡ true → t .phase ≡ Idle NoResponse → t .ticket ≡ s .ticket
+    → s .ticket .0 ≡ l .entries % 2 ^ 32 → Carried unit C s t store l (transmitted (s .phase) (t .phase) (number n) l)
 carried-ended store n early e k f = carried-idle store n e k f (newly early (rw e refl))
 
-pub carried-cut : {C : Type 0} {s t : Slot} (store : List ℕ) {l : Trace} (n : ℕ) → C → t .phase ≡ Idle NoResponse → t .ticket ≡ s .ticket
-    → s .ticket .0 ≡ l .entries % 2 ^ 32 → Carried C s t store l (transmitted (s .phase) (t .phase) (number n) l)
+pub carried-cut : {unit : ℕ} {C : Type 0} {s t : Slot} (store : List ℕ) {l : Trace} (n : ℕ) → C → t .phase ≡ Idle NoResponse → t .ticket ≡ s .ticket
+    → s .ticket .0 ≡ l .entries % 2 ^ 32 → Carried unit C s t store l (transmitted (s .phase) (t .phase) (number n) l)
 carried-cut store n c e k f = carried-idle store n e k f (fell c e)
 
 -- a response that is there goes to Transmit
-carried-begins : {C : Type 0} {s t : Slot} {store : List ℕ} {l : Trace} (n : ℕ) (r : Response) → isTransmit (s .phase) ≡ false → Full r store l
-    → t .phase ≡ Transmit (outgoing r 0) → t .ticket ≡ s .ticket → Fit s store l → Steady C (s .phase) (t .phase)
-    → Carried C s t store l (transmitted (s .phase) (t .phase) (number n) l)
-carried-begins {C} {s} {t} {store} {l} n r a full e k f g =
+carried-begins : {unit : ℕ} {C : Type 0} {s t : Slot} {store : List ℕ} {l : Trace} (n : ℕ) (r : Response) → isTransmit (s .phase) ≡ false → Full r store l
+    → t .phase ≡ Transmit (outgoing r 0) → t .ticket ≡ s .ticket → Fit unit s store l → Steady C (s .phase) (t .phase)
+    → Carried unit C s t store l (transmitted (s .phase) (t .phase) (number n) l)
+carried-begins {unit} {C} {s} {t} {store} {l} n r a full e k f g =
     rw (quiet-begins (s .phase) (t .phase) n l a (rw e refl))
     (record {
       fit =
           record {
-            phase-fits = rw e (record { full = record { held = full .held; size = full .size; to = full .to; under = full .under }; paid = refl; count = refl });
+            phase-fits = rw e (record { full = record { held = full .held; size = full .size; to = full .to; under = full .under }; paid = rw mul-zero refl; count = refl });
             ticket-is = rw k (f .ticket-is);
           };
       entry = stayed refl (λ h. false-true (rw e at h));
@@ -161,13 +160,13 @@ carried-begins {C} {s} {t} {store} {l} n r a full e k f g =
     })
 
 -- Resume: one that waited in Process
-pub carried-released : {C : Type 0} {s t : Slot} {store : List ℕ} {l : Trace} (n : ℕ) (r : Response) → s .phase ≡ Answered r
-    → t .phase ≡ Transmit (outgoing r 0) → t .ticket ≡ s .ticket → Fit s store l → Carried C s t store l (transmitted (s .phase) (t .phase) (number n) l)
+pub carried-released : {unit : ℕ} {C : Type 0} {s t : Slot} {store : List ℕ} {l : Trace} (n : ℕ) (r : Response) → s .phase ≡ Answered r
+    → t .phase ≡ Transmit (outgoing r 0) → t .ticket ≡ s .ticket → Fit unit s store l → Carried unit C s t store l (transmitted (s .phase) (t .phase) (number n) l)
 carried-released n r a e k f = carried-begins n r (rw a refl) (rw a at (f .phase-fits)) e k f (released r a e)
 
 -- Replay: one that an Idle slot holds
-pub carried-replayed : {C : Type 0} {s t : Slot} {store : List ℕ} {l : Trace} (n : ℕ) (r : Response) → s .phase ≡ Idle (Last r)
-    → t .phase ≡ Transmit (outgoing r 0) → t .ticket ≡ s .ticket → Fit s store l → Carried C s t store l (transmitted (s .phase) (t .phase) (number n) l)
+pub carried-replayed : {unit : ℕ} {C : Type 0} {s t : Slot} {store : List ℕ} {l : Trace} (n : ℕ) (r : Response) → s .phase ≡ Idle (Last r)
+    → t .phase ≡ Transmit (outgoing r 0) → t .ticket ≡ s .ticket → Fit unit s store l → Carried unit C s t store l (transmitted (s .phase) (t .phase) (number n) l)
 carried-replayed n r a e k f = carried-begins n r (rw a refl) (rw a at (f .phase-fits)) e k f (newly (rw a refl) (rw e refl))
 
 -- ---- the response in the document's words is the machine's
@@ -207,18 +206,18 @@ entry-sending (entered a b e) = entered a b e
 entry-sending (stayed e f) = stayed e f
 
 -- it goes to Transmit at once, unless the slot's own flag is set
-pub carried-settled : {C : Type 0} {s t : Slot} {store : List ℕ} {l : Trace} (m : Trace) (n : ℕ) (b : Bool) (r : Response) → isTransmit (s .phase) ≡ false
+pub carried-settled : {unit : ℕ} {C : Type 0} {s t : Slot} {store : List ℕ} {l : Trace} (m : Trace) (n : ℕ) (b : Bool) (r : Response) → isTransmit (s .phase) ≡ false
     → t .phase ≡ settled b r → Full r store m → t .ticket .0 ≡ m .entries % 2 ^ 32 → Entry (s .phase) (t .phase) l m → Steady C (s .phase) (t .phase)
-    → Carried C s t store l (transmitted (s .phase) (t .phase) (number n) m)
-carried-settled {C} {s} {t} {store} {l} m n true r a e f k y g =
+    → Carried unit C s t store l (transmitted (s .phase) (t .phase) (number n) m)
+carried-settled {unit} {C} {s} {t} {store} {l} m n true r a e f k y g =
     rw (quiet-other (s .phase) (t .phase) n m (rw e refl))
     (record { fit = record { phase-fits = rw e f; ticket-is = k }; entry = y; steady = g })
-carried-settled {C} {s} {t} {store} {l} m n false r a e f k y g =
+carried-settled {unit} {C} {s} {t} {store} {l} m n false r a e f k y g =
     rw (quiet-begins (s .phase) (t .phase) n m a (rw e refl))
     (record {
       fit =
           record {
-            phase-fits = rw e (record { full = record { held = f .held; size = f .size; to = f .to; under = f .under }; paid = refl; count = refl });
+            phase-fits = rw e (record { full = record { held = f .held; size = f .size; to = f .to; under = f .under }; paid = rw mul-zero refl; count = refl });
             ticket-is = k;
           };
       entry = entry-sending y;
@@ -255,12 +254,12 @@ pub answered-not : {A : Type 0} {r : Response} {x : Request} → Answered r ≡ 
 answered-not e = differ (cc e)
 
 -- the trace has it, and it is not empty
-pub some-response : (s : Slot) (store : List ℕ) (l : Trace) → Fit s store l → PhaseFacts (s .paused) (s .phase) → There (s .phase) → l .response ≡ [] → ⊥
-some-response s store l f v (waits r e) none =
+pub some-response : {unit : ℕ} (s : Slot) (store : List ℕ) (l : Trace) → Fit unit s store l → PhaseFacts unit (s .paused) (s .phase) → There (s .phase) → l .response ≡ [] → ⊥
+some-response {unit} s store l f v (waits r e) none =
     let k : Full r store l = rw e at (f .phase-fits) in
-    let b : PhaseFacts (s .paused) (Answered r) = rw e at v in
+    let b : PhaseFacts unit (s .paused) (Answered r) = rw e at v in
     omega (arith, k .size, ap (λ (x : List ℕ). length x) none, b .1 .least)
-some-response s store l f v (goes r e) none =
-    let k : Going r store l = rw e at (f .phase-fits) in
-    let b : PhaseFacts (s .paused) (Transmit r) = rw e at v in
+some-response {unit} s store l f v (goes r e) none =
+    let k : Going unit r store l = rw e at (f .phase-fits) in
+    let b : PhaseFacts unit (s .paused) (Transmit r) = rw e at v in
     omega (arith, k .full .size, ap (λ (x : List ℕ). length x) none, b .1 .least)

@@ -23,7 +23,7 @@ use Rattle.machine.specs.Wire.{inward}
 use Rattle.machine.specs.Receive.{refused, refusedBusy, received}
 use Rattle.machine.specs.Valid.{PhaseFacts, Sound}
 use Rattle.machine.specs.Calls.{receive, Event, number, step}
-use Rattle.machine.specs.History.{Trace, History, bytesFrom4, phaseAt, isTransmit, isPacketOf, isFor, requestWith, commanded, transmitted, next, run, start}
+use Rattle.machine.specs.History.{Trace, History, bytesFrom4, phaseAt, isTransmit, isPacketOf, isFor, requestWith, commanded, transmitted, next, run, start, unitOf}
 use Rattle.machine.specs.Gathering.{gatheringIn, gatheringAt, Gathers, GathersSo, Arrives, last, one-more, GathersAll, CutGathered}
 use Rattle.machine.proofs.Slots.{facts-at, from-same}
 use Rattle.machine.proofs.Receiving.{Origin, opens, goes-on, Joining, filled, grown, Ground, in-table, of-control, of-no-slot, Break, in-sequence, in-size, in-total, Walk, walked}
@@ -31,28 +31,27 @@ use Rattle.machine.proofs.Places.{Which, this, that, which, slot-this}
 use Rattle.machine.proofs.Keeps.{store-at}
 use Rattle.machine.proofs.Fits.{Fit}
 use Rattle.machine.proofs.Received.{Mid, for-that, phase-before, start-mid, ended-mid}
-use Rattle.machine.proofs.Histories.{Good, good-next, good-every}
+use Rattle.machine.proofs.Histories.{Good, good-next, good-every, next-end}
 use Rattle.machine.proofs.Commands.{same-number}
-use Rattle.machine.proofs.Identity.{next-eid}
 
 -- ---- one packet, in `mctp`'s words
 
 -- with SOM it does not matter what was gathered before
-som-first : (g : Gathered) (h : Header) (payload : List ℕ) → h .som ≡ true → gatherRead 64 4224 g payload (Packet h) ≡ first 64 h payload
-som-first nothing h payload e = rw e refl
-som-first (refuses n) h payload e = rw e refl
-som-first (more a) h payload e = rw e refl
-som-first (whole m) h payload e = rw e refl
+som-first : (unit : ℕ) (g : Gathered) (h : Header) (payload : List ℕ) → h .som ≡ true → gatherRead unit 4224 g payload (Packet h) ≡ first unit h payload
+som-first unit nothing h payload e = rw e refl
+som-first unit (refuses n) h payload e = rw e refl
+som-first unit (more a) h payload e = rw e refl
+som-first unit (whole m) h payload e = rw e refl
 
 -- without SOM a packet of the same source and tag that is not refused joins
-later-joins : (h : Header) (payload : List ℕ) (a : Assembling) → h .som ≡ false → h .source ≡ a .source → h .tag ≡ a .tag
-    → joinRefusal 64 4224 (a .sequence) (length (a .bytes)) h (length payload) ≡ 0 → gatherRead 64 4224 (more a) payload (Packet h) ≡ joined h (a .bytes) payload
-later-joins h payload a som source tag none =
-    by (h .som) (eqb (h .source) (a .source) && eqb (h .tag) (a .tag)) (eqb (joinRefusal 64 4224 (a .sequence) (length (a .bytes)) h (length payload)) 0) som
+later-joins : (unit : ℕ) (h : Header) (payload : List ℕ) (a : Assembling) → h .som ≡ false → h .source ≡ a .source → h .tag ≡ a .tag
+    → joinRefusal unit 4224 (a .sequence) (length (a .bytes)) h (length payload) ≡ 0 → gatherRead unit 4224 (more a) payload (Packet h) ≡ joined h (a .bytes) payload
+later-joins unit h payload a som source tag none =
+    by (h .som) (eqb (h .source) (a .source) && eqb (h .tag) (a .tag)) (eqb (joinRefusal unit 4224 (a .sequence) (length (a .bytes)) h (length payload)) 0) som
     (both-and (eqb (h .source) (a .source)) (eqb (h .tag) (a .tag)) (eq-eqb (h .source) (a .source) source) (eq-eqb (h .tag) (a .tag) tag)) (eq-eqb _ 0 none)
   where
     by : (x y z : Bool) → x ≡ false → y ≡ true → z ≡ true
-        → (if x then first 64 h payload else if not y then refuses 21 else if not z then refuses (joinRefusal 64 4224 (a .sequence) (length (a .bytes)) h (length payload))
+        → (if x then first unit h payload else if not y then refuses 21 else if not z then refuses (joinRefusal unit 4224 (a .sequence) (length (a .bytes)) h (length payload))
         else joined h (a .bytes) payload)
         ≡ joined h (a .bytes) payload
     by x y z e f g = rw (e, f, g) refl
@@ -63,27 +62,27 @@ Joined p bytes =
     if fields p .eom then whole bytes else more (record { source = fields p .source; tag = fields p .tag; sequence = fields p .sequence; bytes = bytes })
 
 module _ (w₀ : World) (p : List ℕ) (trace : ℕ → Trace) (s₀ : Sound w₀)
-    (fits : (j : ℕ) → j ≤ 1 → Fit (slotAt (w₀ .endpoint) j) (storeAt w₀ j) (trace j)) where
+    (fits : (j : ℕ) → j ≤ 1 → Fit (w₀ .endpoint .unit) (slotAt (w₀ .endpoint) j) (storeAt w₀ j) (trace j)) where
   -- `mctp` joins the payload
   joins-it : (w : World) (i at : ℕ) → Joining w₀ p w i at → Mid w₀ p trace s₀ fits w
-      → gatherRead 64 4224 (gatheringIn (phaseAt w₀ i) (trace i)) (payloadOf p) (readHeader (w₀ .endpoint .eid) 64 true p) ≡ Joined p (requestWith p (trace i))
-  joins-it w i at j m = ap (gatherRead 64 4224 (gatheringIn (phaseAt w₀ i) (trace i)) (payloadOf p)) (j .read-so) ∙ go (j .origin)
+      → gatherRead (w₀ .endpoint .unit) 4224 (gatheringIn (phaseAt w₀ i) (trace i)) (payloadOf p) (readHeader (w₀ .endpoint .eid) (w₀ .endpoint .unit) true p) ≡ Joined p (requestWith p (trace i))
+  joins-it w i at j m = ap (gatherRead (w₀ .endpoint .unit) 4224 (gatheringIn (phaseAt w₀ i) (trace i)) (payloadOf p)) (j .read-so) ∙ go (j .origin)
     where
-      go : {n : ℕ} → Origin w₀ p w i n → gatherRead 64 4224 (gatheringIn (phaseAt w₀ i) (trace i)) (payloadOf p) (Packet (fields p)) ≡ Joined p (requestWith p (trace i))
+      go : {n : ℕ} → Origin w₀ p w i n → gatherRead (w₀ .endpoint .unit) 4224 (gatheringIn (phaseAt w₀ i) (trace i)) (payloadOf p) (Packet (fields p)) ≡ Joined p (requestWith p (trace i))
       go (opens som e uncut _) =
           let text : requestWith p (trace i) ≡ bytesFrom4 p = rw som refl in
-          som-first (gatheringIn (phaseAt w₀ i) (trace i)) (fields p) (payloadOf p) som ∙ rw uncut refl ∙ ap (Joined p) (sym text)
+          som-first (w₀ .endpoint .unit) (gatheringIn (phaseAt w₀ i) (trace i)) (fields p) (payloadOf p) som ∙ rw uncut refl ∙ ap (Joined p) (sym text)
       go (goes-on som a ph fr none) =
           let q : phaseAt w₀ i ≡ Receive a = sym (phase-before w₀ p trace s₀ fits w m i (j .slot-is) som) ∙ ph in
           let held : take (a .length) (storeAt w₀ i) ≡ trace i .request = rw q at (fits i (j .slot-is) .phase-fits) in
-          let f : PhaseFacts (slotAt (w₀ .endpoint) i .paused) (Receive a) = rw q at (facts-at i (j .slot-is) (s₀ .state)) in
+          let f : PhaseFacts (w₀ .endpoint .unit) (slotAt (w₀ .endpoint) i .paused) (Receive a) = rw q at (facts-at i (j .slot-is) (s₀ .state)) in
           let size : length (trace i .request) ≡ a .length = rw (sym held) (length-take-le (a .length) (storeAt w₀ i) (rw (store-at i s₀) (f .1))) in
           let same = from-same (fields p .source) (fields p .tag) a fr in
           let text : requestWith p (trace i) ≡ trace i .request ++ bytesFrom4 p = rw som refl in
-          let joins : joinRefusal 64 4224 (a .sequence) (length (trace i .request)) (fields p) (length (payloadOf p)) ≡ 0 =
-          ap (λ (n : ℕ). joinRefusal 64 4224 (a .sequence) n (fields p) (length (payloadOf p))) size ∙ none in
-          ap (λ (x : Phase). gatherRead 64 4224 (gatheringIn x (trace i)) (payloadOf p) (Packet (fields p))) q
-          ∙ later-joins (fields p) (payloadOf p) (record { source = a .source; tag = a .tag; sequence = a .sequence; bytes = trace i .request }) som (sym (same .0)) (sym (same .1)) joins
+          let joins : joinRefusal (w₀ .endpoint .unit) 4224 (a .sequence) (length (trace i .request)) (fields p) (length (payloadOf p)) ≡ 0 =
+          ap (λ (n : ℕ). joinRefusal (w₀ .endpoint .unit) 4224 (a .sequence) n (fields p) (length (payloadOf p))) size ∙ none in
+          ap (λ (x : Phase). gatherRead (w₀ .endpoint .unit) 4224 (gatheringIn x (trace i)) (payloadOf p) (Packet (fields p))) q
+          ∙ later-joins (w₀ .endpoint .unit) (fields p) (payloadOf p) (record { source = a .source; tag = a .tag; sequence = a .sequence; bytes = trace i .request }) som (sym (same .0)) (sym (same .1)) joins
           ∙ ap (Joined p) (sym text)
 
   -- the slot that a packet is for
@@ -97,11 +96,11 @@ module _ (w₀ : World) (p : List ℕ) (trace : ℕ → Trace) (s₀ : Sound w�
   -- what receiving answers and leaves, beside what `mctp` gathers
   pub record GathersBy (i : ℕ) (o : Outcome) : Type 0 where
     pub takes-in : o .answer ≡ 0
-        → (gatherRead 64 4224 (gatheringIn (phaseAt w₀ i) (trace i)) (payloadOf p) (readHeader (w₀ .endpoint .eid) 64 true p)
+        → (gatherRead (w₀ .endpoint .unit) 4224 (gatheringIn (phaseAt w₀ i) (trace i)) (payloadOf p) (readHeader (w₀ .endpoint .eid) (w₀ .endpoint .unit) true p)
         ≡ more (record { source = fields p .source; tag = fields p .tag; sequence = fields p .sequence; bytes = requestWith p (trace i) }))
         × ((n : ℕ) × (phaseAt (o .world) i ≡ Receive (record { source = fields p .source; tag = fields p .tag; sequence = fields p .sequence; length = n })))
     pub completes : o .answer ≡ 1
-        → gatherRead 64 4224 (gatheringIn (phaseAt w₀ i) (trace i)) (payloadOf p) (readHeader (w₀ .endpoint .eid) 64 true p) ≡ whole (requestWith p (trace i))
+        → gatherRead (w₀ .endpoint .unit) 4224 (gatheringIn (phaseAt w₀ i) (trace i)) (payloadOf p) (readHeader (w₀ .endpoint .eid) (w₀ .endpoint .unit) true p) ≡ whole (requestWith p (trace i))
 
   abbrev Told : Outcome → Type 0
   Told o = (i : ℕ) → i ≤ 1 → isFor i p w₀ ≡ true → GathersBy i o
@@ -190,30 +189,31 @@ gathers-one h g p i is k =
     after n q l e f = rw (e, f) refl
 
 pub gathers-so : GathersSo
-gathers-so eid store0 store1 a b xs p i is k = gathers-one (run xs (start eid store0 store1)) (good-every eid store0 store1 a b xs) p i is k
+gathers-so eid unit store0 store1 a b xs p i is k = gathers-one (run xs (start eid unit store0 store1)) (good-every eid unit store0 store1 a b xs) p i is k
 
 -- ---- a list of packets
 
 gathers-list : (i : ℕ) → i ≤ 1 → {h : History} {ps : List (List ℕ)} {m : List ℕ} → Good h → Arrives i h ps m
-    → gather (h .world .endpoint .eid) 64 4224 true (gatheringAt h i) ps ≡ whole m
+    → gather (h .world .endpoint .eid) (unitOf (h .world)) 4224 true (gatheringAt h i) ps ≡ whole m
 unfolding gather
 gathers-list i is g (last {h} {p} k e) = gathers-one h g p i is k .ends e
 gathers-list i is g (one-more {h} {p} {ps} {m} k e rest) =
-    ap (λ (x : Gathered). gather (h .world .endpoint .eid) 64 4224 true x ps) (gathers-one h g p i is k .goes-on e)
-    ∙ ap (λ (x : ℕ). gather x 64 4224 true (gatheringAt (next (receive p) h) i) ps) (sym (next-eid (receive p) h g))
+    ap (λ (x : Gathered). gather (h .world .endpoint .eid) (unitOf (h .world)) 4224 true x ps) (gathers-one h g p i is k .goes-on e)
+    ∙ ap (λ (x : ℕ × ℕ). gather (x .0) (x .1) 4224 true (gatheringAt (next (receive p) h) i) ps) (sym (next-end (receive p) h g))
     ∙ gathers-list i is (good-next (receive p) h g) rest
 
 pub gathers-all : GathersAll
-gathers-all eid store0 store1 a b xs i is ps m k = gathers-list i is (good-every eid store0 store1 a b xs) k
+gathers-all eid unit store0 store1 a b xs i is ps m k = gathers-list i is (good-every eid unit store0 store1 a b xs) k
 
 same-whole : {a b : List ℕ} → whole a ≡ whole b → a ≡ b
 same-whole e = cc
 
 pub cut-gathered : CutGathered
-cut-gathered eid store0 store1 a b xs i is route message m to-us inward some fits k =
-    let h = run xs (start eid store0 store1) in
+cut-gathered eid unit store0 store1 a b xs i is route message m to-us inward some fits k =
+    let h = run xs (start eid unit store0 store1) in
+    let n = good-every eid unit store0 store1 a b xs .sound .state .numbers in
     same-whole
-    (sym (gathers-all eid store0 store1 a b xs i is (cut 64 route message) m k)
-    ∙ ap (λ (x : ℕ). gather x 64 4224 true (gatheringAt h i) (cut 64 route message)) (sym to-us)
-    ∙ ap (λ (x : Bool). gather (route .destination) 64 4224 x (gatheringAt h i) (cut 64 route message)) (sym inward)
-    ∙ gather-cut 64 4224 route message (gatheringAt h i) (omega arith) some fits)
+    (sym (gathers-all eid unit store0 store1 a b xs i is (cut (unitOf (h .world)) route message) m k)
+    ∙ ap (λ (x : ℕ). gather x (unitOf (h .world)) 4224 true (gatheringAt h i) (cut (unitOf (h .world)) route message)) (sym to-us)
+    ∙ ap (λ (x : Bool). gather (route .destination) (unitOf (h .world)) 4224 x (gatheringAt h i) (cut (unitOf (h .world)) route message)) (sym inward)
+    ∙ gather-cut (unitOf (h .world)) 4224 route message (gatheringAt h i) (omega (arith, n .unit-least)) some fits)

@@ -18,10 +18,10 @@ use Rattle.opening.specs.Opening.{opened, joinedIn}
 use Rattle.opening.specs.declared.First.the-variants.{Refused as Unopened, Control, Command}
 use Rattle.opening.specs.declared.Joined.the-variants.{More, Wrong, Whole}
 use Rattle.machine.specs.State.{World, slotAt, storeAt, withStore, withEndpoint, isIdle}
-use Rattle.machine.specs.Wire.{unit, inward, store-size}
+use Rattle.machine.specs.Wire.{inward, store-size}
 use Rattle.machine.specs.Receive.{refused, refusedBusy, gathers, isFrom, endedSlot, endAssembly, holderIn, holder, assembly, landed, gathered, firstCommand, firstBy, first, laterAt, laterBy, later, receivedBy, received}
 use Rattle.machine.specs.Valid.{PhaseFacts, Valid, Sound}
-use Rattle.machine.specs.History.{hasSom, sourceOf, messageTagOf, bytesFrom4, phaseAt}
+use Rattle.machine.specs.History.{hasSom, sourceOf, messageTagOf, bytesFrom4, phaseAt, unitOf}
 use Rattle.machine.specs.Numbers.{rightSizes}
 use Rattle.machine.specs.Demands.{isIdleNow}
 use Rattle.machine.specs.Grounds.{hasEom, takenIn, phaseFound, firstNumber, joinNumber, joinOr, Grounds}
@@ -81,10 +81,10 @@ module _ (w : World) (p : List ℕ) (v : Valid (w .endpoint)) where
       by false = gathered-number ended (messageHeader m .csi) 0 (csi-most m) p m (omega arith)
 
   first-number : first ended (fields p) m .answer ≡ firstNumber w p m
-  unfolding first opened
+  unfolding first opened endAssembly
   first-number =
       rw (same-false (messageHeader m .ror))
-      (by (not (eqb (byteAt m 0) message-type)) (isCut unit (fields p) (length m)) (fields p .eom && ltb (length m) 8) (messageHeader m .ror) (eqb (messageHeader m .nmimt) control)
+      (by (not (eqb (byteAt m 0) message-type)) (isCut (unitOf w) (fields p) (length m)) (fields p .eom && ltb (length m) 8) (messageHeader m .ror) (eqb (messageHeader m .nmimt) control)
       (not (fields p .eom) || not (eqb (length m) 12)) (not (checkRight m)))
     where
       same-false : (b : Bool) → not (same b false) ≡ b
@@ -112,10 +112,10 @@ module _ (w : World) (p : List ℕ) (v : Sound w) where
   later-number : (i : ℕ) → i ≤ 1 → (a : Assembly) → phaseAt w i ≡ Receive a → laterBy w (fields p) (payloadOf p) (At i a) .answer ≡ joinNumber w p (payloadOf p) i a
   unfolding laterAt joinRefusal
   later-number i is a e =
-      by (not (eqb (fields p .sequence) ((a .sequence + 1) % 4))) (isCut unit (fields p) (length (payloadOf p))) (ltb store-size (a .length + length (payloadOf p)))
+      by (not (eqb (fields p .sequence) ((a .sequence + 1) % 4))) (isCut (unitOf w) (fields p) (length (payloadOf p))) (ltb store-size (a .length + length (payloadOf p)))
     where
       fits : a .length ≤ length (storeAt w i)
-      fits = let f : PhaseFacts (slotAt (w .endpoint) i .paused) (Receive a) = rw e at (facts-at i is (v .state)) in rw (store-at i v) (f .1)
+      fits = let f : PhaseFacts (unitOf w) (slotAt (w .endpoint) i .paused) (Receive a) = rw e at (facts-at i is (v .state)) in rw (store-at i v) (f .1)
 
       by : (x y z : Bool)
           → laterAt w i a (fields p) (payloadOf p) (if x then 22 else if y then 16 else if z then 23 else 0) .answer
@@ -183,9 +183,9 @@ grounds w p v = rw (wrong-sizes w) (stores (rightSizes w) refl)
     header right false false false false true = unfold refused in refl
     header right false false false false false = read right
 
-    stores : (b : Bool) → rightSizes w ≡ b → (if not b then record { answer = 40; world = w } else receivedBy w (payloadOf p) (readHeader (w .endpoint .eid) unit inward p)) .answer ≡ (if not b then 40
+    stores : (b : Bool) → rightSizes w ≡ b → (if not b then record { answer = 40; world = w } else receivedBy w (payloadOf p) (readHeader (w .endpoint .eid) (unitOf w) inward p)) .answer ≡ (if not b then 40
         else if ltb (length p) 5 then 10
-        else if ltb 68 (length p) then 11
+        else if ltb (unitOf w + 4) (length p) then 11
         else if not (eqb (byteAt p 0 % 16) 1) then 12
         else if not (eqb (byteAt p 1) (w .endpoint .eid)) then 13
         else if not (isSet (byteAt p 3) 3) then 14
@@ -194,4 +194,4 @@ grounds w p v = rw (wrong-sizes w) (stores (rightSizes w) refl)
     stores false e = refl
     stores true e =
         rw (same-true (isSet (byteAt p 3) 3))
-        (header e (ltb (length p) 5) (ltb 68 (length p)) (not (eqb (byteAt p 0 % 16) 1)) (not (eqb (byteAt p 1) (w .endpoint .eid))) (not (isSet (byteAt p 3) 3)))
+        (header e (ltb (length p) 5) (ltb (unitOf w + 4) (length p)) (not (eqb (byteAt p 0 % 16) 1)) (not (eqb (byteAt p 1) (w .endpoint .eid))) (not (isSet (byteAt p 3) 3)))

@@ -8,14 +8,15 @@ use lib.Dec.{eqb, leb}
 use lib.ListN.{length}
 use borrow.Author.Tests.{ltb-true, leb-true, eqb-true, lt-ltb, le-leb, eq-eqb, not-true}
 use Rattle.lent.proofs.Choice.{false-true, and-both, both-and}
+use Rattle.mctp.specs.Setup.{least-unit, most-unit}
 use Rattle.nvme_mi.specs.Message.{smallest}
 use Rattle.machine.specs.State.{isIdle}
-use Rattle.machine.specs.Wire.{unit, store-size}
+use Rattle.machine.specs.Wire.{store-size}
 use Rattle.machine.specs.Poll.{otherSlot}
 use Rattle.machine.specs.Valid.{smallest-response, between, phased, unpausedIdle, gatheredFits, packetLeft, heldFits, messageFits, waitsPaused, isBegun, begunTurn, allOf, clauses, validWith, valid, Fits, HeldFacts, PhaseFacts, ValidSlots, two, Valid}
 use Rattle.machine.specs.Types.{Response, Held, NoResponse, Last, Phase, Idle, Receive, Process, Answered, Transmit, Slot, Endpoint}
 
-between-bounds : (low high n : ℕ) → between low high n ≡ true → (low ≤ n) × (n ≤ high)
+pub between-bounds : (low high n : ℕ) → between low high n ≡ true → (low ≤ n) × (n ≤ high)
 between-bounds low high n h = let k = and-both (leb low n) (leb n high) h in (leb-true low n (k .0), leb-true n high (k .1))
 
 bounds-between : (low high n : ℕ) → low ≤ n → n ≤ high → between low high n ≡ true
@@ -23,10 +24,10 @@ bounds-between low high n a b = both-and (leb low n) (leb n high) (le-leb low n 
 
 -- ---- one slot: five of the clauses speak of it alone
 
-pub record Passes (b : Bool) (p : Phase) : Type 0 where
+pub record Passes (unit : ℕ) (b : Bool) (p : Phase) : Type 0 where
   pub idle : not (isIdle p && b) ≡ true
-  pub gathered : gatheredFits p ≡ true
-  pub left : packetLeft p ≡ true
+  pub gathered : gatheredFits unit p ≡ true
+  pub left : packetLeft unit p ≡ true
   pub fits : messageFits p ≡ true
   pub waits : phased true (λ a. true) (λ r. true) (λ r. b) (λ r. true) p ≡ true
 
@@ -46,18 +47,30 @@ held-passes : (k : Held) → HeldFacts k → heldFits k ≡ true
 held-passes NoResponse f = refl
 held-passes (Last r) f = between-fits r f
 
-to-facts : (b : Bool) (p : Phase) → Passes b p → PhaseFacts b p
-to-facts b (Idle held) c = (not-true b (c .idle), held-facts held (c .fits))
-to-facts b (Receive a) c = between-bounds unit store-size (a .length) (c .gathered)
-to-facts b (Process r) c = between-bounds smallest store-size (r .length) (c .fits)
-to-facts b (Answered r) c = (c .waits, fits-between r (c .fits))
-to-facts b (Transmit r) c = (ltb-true (unit * r .sent) (r .response .length) (c .left), fits-between (r .response) (c .fits))
+to-facts : (unit : ℕ) (b : Bool) (p : Phase) → Passes unit b p → PhaseFacts unit b p
+to-facts unit b (Idle held) c = (not-true b (c .idle), held-facts held (c .fits))
+to-facts unit b (Receive a) c =
+    let k = and-both (between unit store-size (a .length)) (eqb (a .length % unit) 0) (c .gathered) in
+    let f = between-bounds unit store-size (a .length) (k .0) in
+    (f .0, f .1, eqb-true (a .length % unit) 0 (k .1))
+to-facts unit b (Process r) c = between-bounds smallest store-size (r .length) (c .fits)
+to-facts unit b (Answered r) c = (c .waits, fits-between r (c .fits))
+to-facts unit b (Transmit r) c = (ltb-true (unit * r .sent) (r .response .length) (c .left), fits-between (r .response) (c .fits))
 
-of-facts : (b : Bool) (p : Phase) → PhaseFacts b p → Passes b p
-of-facts b (Idle held) f = record { idle = rw (f .0) refl; gathered = refl; left = refl; fits = held-passes held (f .1); waits = refl }
-of-facts b (Receive a) f = record { idle = refl; gathered = bounds-between unit store-size (a .length) (f .0) (f .1); left = refl; fits = refl; waits = refl }
-of-facts b (Process r) f = record { idle = refl; gathered = refl; left = refl; fits = bounds-between smallest store-size (r .length) (f .0) (f .1); waits = refl }
-of-facts b (Answered r) f =
+pub of-facts : (unit : ℕ) (b : Bool) (p : Phase) → PhaseFacts unit b p → Passes unit b p
+of-facts unit b (Idle held) f = record { idle = rw (f .0) refl; gathered = refl; left = refl; fits = held-passes held (f .1); waits = refl }
+of-facts unit b (Receive a) f =
+    record {
+      idle = refl;
+      gathered =
+          both-and (between unit store-size (a .length)) (eqb (a .length % unit) 0) (bounds-between unit store-size (a .length) (f .0) (f .1))
+          (eq-eqb (a .length % unit) 0 (f .2));
+      left = refl;
+      fits = refl;
+      waits = refl;
+    }
+of-facts unit b (Process r) f = record { idle = refl; gathered = refl; left = refl; fits = bounds-between smallest store-size (r .length) (f .0) (f .1); waits = refl }
+of-facts unit b (Answered r) f =
     record {
       idle = refl;
       gathered = refl;
@@ -65,7 +78,7 @@ of-facts b (Answered r) f =
       fits = between-fits r (f .1);
       waits = f .0;
     }
-of-facts b (Transmit r) f =
+of-facts unit b (Transmit r) f =
     record {
       idle = refl;
       gathered = refl;
@@ -105,36 +118,37 @@ firsts f s t h = and-both (f s) (f t) h
 
 valid-two : (e : Endpoint) (s t : Slot) → e .slots ≡ s ∷ t ∷ [] → Each (clauses e s t) → Valid e
 valid-two e s t slots-are h =
-    let idle = firsts unpausedIdle s t (h .1 .1 .0) in
-    let gathered = firsts (λ (x : Slot). gatheredFits (x .phase)) s t (h .1 .1 .1 .0) in
-    let left = firsts (λ (x : Slot). packetLeft (x .phase)) s t (h .1 .1 .1 .1 .1 .0) in
-    let fits = firsts (λ (x : Slot). messageFits (x .phase)) s t (h .1 .1 .1 .1 .1 .1 .0) in
-    let waits = firsts waitsPaused s t (h .1 .1 .1 .1 .1 .1 .1 .0) in
-    let turns = and-both (begunTurn (e .turn) 0 (s .phase)) (begunTurn (e .turn) 1 (t .phase)) (h .1 .1 .1 .1 .1 .1 .1 .1 .0) in
-    let flags = and-both (eqb (e .flags % 2 ^ 4) 0 && eqb (e .flags / 2 ^ 13 % 2) 0) (eqb (e .flags / 2 ^ 15) 0) (h .1 .1 .1 .1 .1 .1 .1 .1 .1 .0) in
+    let idle = firsts unpausedIdle s t (h .1 .1 .1 .0) in
+    let gathered = firsts (λ (x : Slot). gatheredFits (e .unit) (x .phase)) s t (h .1 .1 .1 .1 .0) in
+    let left = firsts (λ (x : Slot). packetLeft (e .unit) (x .phase)) s t (h .1 .1 .1 .1 .1 .1 .0) in
+    let fits = firsts (λ (x : Slot). messageFits (x .phase)) s t (h .1 .1 .1 .1 .1 .1 .1 .0) in
+    let waits = firsts waitsPaused s t (h .1 .1 .1 .1 .1 .1 .1 .1 .0) in
+    let turns = and-both (begunTurn (e .turn) 0 (s .phase)) (begunTurn (e .turn) 1 (t .phase)) (h .1 .1 .1 .1 .1 .1 .1 .1 .1 .0) in
+    let flags = and-both (eqb (e .flags % 2 ^ 4) 0 && eqb (e .flags / 2 ^ 13 % 2) 0) (eqb (e .flags / 2 ^ 15) 0) (h .1 .1 .1 .1 .1 .1 .1 .1 .1 .1 .0) in
     let low = and-both (eqb (e .flags % 2 ^ 4) 0) (eqb (e .flags / 2 ^ 13 % 2) 0) (flags .0) in
     let eid = between-bounds 8 254 (e .eid) (h .0) in
+    let units = between-bounds least-unit most-unit (e .unit) (h .1 .0) in
     record {
-      numbers = record { eid-least = eid .0; eid-most = eid .1; turn-most = leb-true (e .turn) 1 (h .1 .0) };
+      numbers = record { eid-least = eid .0; eid-most = eid .1; unit-least = units .0; unit-most = units .1; turn-most = leb-true (e .turn) 1 (h .1 .1 .0) };
       slots-valid =
           rw slots-are
           (two
           (record {
-            phase-facts = to-facts (s .paused) (s .phase) (record { idle = idle .0; gathered = gathered .0; left = left .0; fits = fits .0; waits = waits .0 });
+            phase-facts = to-facts (e .unit) (s .paused) (s .phase) (record { idle = idle .0; gathered = gathered .0; left = left .0; fits = fits .0; waits = waits .0 });
             begun-turn = to-turn (isBegun (s .phase)) (e .turn) 0 (turns .0);
           })
           (record {
-            phase-facts = to-facts (t .paused) (t .phase) (record { idle = idle .1; gathered = gathered .1; left = left .1; fits = fits .1; waits = waits .1 });
+            phase-facts = to-facts (e .unit) (t .paused) (t .phase) (record { idle = idle .1; gathered = gathered .1; left = left .1; fits = fits .1; waits = waits .1 });
             begun-turn = to-turn (isBegun (t .phase)) (e .turn) 1 (turns .1);
           })
-          (h .1 .1 .1 .1 .0));
+          (h .1 .1 .1 .1 .1 .0));
       flags-valid =
           record {
             low = eqb-true (e .flags % 2 ^ 4) 0 (low .0);
             thirteen = eqb-true (e .flags / 2 ^ 13 % 2) 0 (low .1);
             top = eqb-true (e .flags / 2 ^ 15) 0 (flags .1);
           };
-      reply-twelve = eqb-true (length (e .reply)) 12 (h .1 .1 .1 .1 .1 .1 .1 .1 .1 .1 .0);
+      reply-twelve = eqb-true (length (e .reply)) 12 (h .1 .1 .1 .1 .1 .1 .1 .1 .1 .1 .1 .0);
     }
 
 -- a state that passes the test has the facts
@@ -153,36 +167,39 @@ pub facts-valid : (e : Endpoint) → Valid e → valid e ≡ true
 unfolding valid
 facts-valid e v = go (e .slots) (v .slots-valid)
   where
-    go : (l : List Slot) → ValidSlots (e .turn) l → validWith e l ≡ true
+    go : (l : List Slot) → ValidSlots (e .unit) (e .turn) l → validWith e l ≡ true
     go _ (two {s} {t} vs vt k) =
-        let ps = of-facts (s .paused) (s .phase) (vs .phase-facts) in
-        let pt = of-facts (t .paused) (t .phase) (vt .phase-facts) in
+        let ps = of-facts (e .unit) (s .paused) (s .phase) (vs .phase-facts) in
+        let pt = of-facts (e .unit) (t .paused) (t .phase) (vt .phase-facts) in
         let f = v .flags-valid in
         let turn-s : begunTurn (e .turn) 0 (s .phase) ≡ true = of-turn (isBegun (s .phase)) (e .turn) 0 (vs .begun-turn) in
         let turn-t : begunTurn (e .turn) 1 (t .phase) ≡ true = of-turn (isBegun (t .phase)) (e .turn) 1 (vt .begun-turn) in
         all-hold (clauses e s t) (
           bounds-between 8 254 (e .eid) (v .numbers .eid-least) (v .numbers .eid-most),
           (
-            le-leb (e .turn) 1 (v .numbers .turn-most),
+            bounds-between least-unit most-unit (e .unit) (v .numbers .unit-least) (v .numbers .unit-most),
             (
-              both-and (unpausedIdle s) (unpausedIdle t) (ps .idle) (pt .idle),
+              le-leb (e .turn) 1 (v .numbers .turn-most),
               (
-                both-and (gatheredFits (s .phase)) (gatheredFits (t .phase)) (ps .gathered) (pt .gathered),
+                both-and (unpausedIdle s) (unpausedIdle t) (ps .idle) (pt .idle),
                 (
-                  k,
+                  both-and (gatheredFits (e .unit) (s .phase)) (gatheredFits (e .unit) (t .phase)) (ps .gathered) (pt .gathered),
                   (
-                    both-and (packetLeft (s .phase)) (packetLeft (t .phase)) (ps .left) (pt .left),
+                    k,
                     (
-                      both-and (messageFits (s .phase)) (messageFits (t .phase)) (ps .fits) (pt .fits),
+                      both-and (packetLeft (e .unit) (s .phase)) (packetLeft (e .unit) (t .phase)) (ps .left) (pt .left),
                       (
-                        both-and (waitsPaused s) (waitsPaused t) (ps .waits) (pt .waits),
+                        both-and (messageFits (s .phase)) (messageFits (t .phase)) (ps .fits) (pt .fits),
                         (
-                          both-and (begunTurn (e .turn) 0 (s .phase)) (begunTurn (e .turn) 1 (t .phase)) turn-s turn-t,
+                          both-and (waitsPaused s) (waitsPaused t) (ps .waits) (pt .waits),
                           (
-                            rw (f .low, f .thirteen, f .top) refl,
+                            both-and (begunTurn (e .turn) 0 (s .phase)) (begunTurn (e .turn) 1 (t .phase)) turn-s turn-t,
                             (
-                              eq-eqb (length (e .reply)) 12 (v .reply-twelve),
-                              tt,
+                              rw (f .low, f .thirteen, f .top) refl,
+                              (
+                                eq-eqb (length (e .reply)) 12 (v .reply-twelve),
+                                tt,
+                              ),
                             ),
                           ),
                         ),

@@ -4,6 +4,7 @@ use Prim.Native.Nat.{ℕ, zero, suc, _+_, _*_, _/_, _%_, _^_, _≤_, _<_}
 use mathlib.Core.Path.{_≡_, refl, sym, _∙_}
 use mathlib.Core.Bool.{Bool, true, false, not, _||_}
 use mathlib.Core.List.{List, [], _∷_}
+use native.Mathlib.Nat.{mul-zero}
 use native.Mathlib.Omega.{arith}
 use lib.Bits.{bitOr, or-mod, or-shr}
 use lib.Dec.{eqb, ltb}
@@ -16,7 +17,8 @@ use Rattle.lent.proofs.Stores.{length-put}
 use Rattle.mctp.specs.Header.{fields, payloadOf}
 use Rattle.mctp.specs.declared.Header.{Header}
 use Rattle.mctp.specs.Cut.{packets}
-use Rattle.mctp.proofs.Laws.{packets-bounds}
+use Rattle.mctp.specs.Setup.{first-eid, least-unit, setupRefusal}
+use Rattle.mctp.proofs.Laws.{SetUpSo, set-up-so, first-so, packets-bounds}
 use Rattle.nvme_mi.specs.Message.{control, messageHeader, commandFault, controlFault, smallest}
 use Rattle.nvme_mi.specs.Response.{response, faultBody}
 use Rattle.nvme_mi.proofs.Laws.{length-response}
@@ -24,17 +26,17 @@ use Rattle.nvme_mi.specs.declared.MessageHeader.{MessageHeader}
 use Rattle.nvme_mi.specs.declared.Fault.{Fault}
 use Rattle.nvme_mi.specs.declared.Fault.the-variants.{NoFault, Parameter, Failure}
 use Rattle.machine.specs.State.{World, Outcome, slotAt, storeAt, withSlot, withSlots, withFlags, withReply, withStore, withEndpoint, withPhase, withBusy, idled, heldIn, isIdle, fresh, ticket, outgoing, settled}
-use Rattle.machine.specs.Wire.{unit, store-size, response-place, packet-room, wrongStores, opcodeOf, noParameter, clearsFlags}
+use Rattle.machine.specs.Wire.{store-size, response-place, packetRoom, wrongStores, opcodeOf, noParameter, clearsFlags}
 use Rattle.machine.specs.Control.{pausedSlot, pause, resumedSlot, released, resume, abort, clearFlags, replayed, replay, primitive, replied, controlledBy, controlled}
 use Rattle.machine.specs.Process.{request, processing, responseTo, responded, respondedAtOnce, entered}
 use Rattle.machine.specs.Receive.{refused, refusedBusy, raised, flagOf, dropped, gathers, endedSlot, endAssembly, received}
-use Rattle.machine.specs.Finish.{isSlot, takenRow, takenFrom, taken, isBody, isPresent, completedRow, completedIn, completed, isReceive, timedOut, started, wasReset, wasSetUp}
+use Rattle.machine.specs.Finish.{isSlot, takenRow, takenFrom, taken, isBody, isPresent, completedRow, completedIn, completed, isReceive, timedOut, started, wasReset, initial, wasSetUp}
 use Rattle.machine.specs.Poll.{Polled, otherSlot, sendingOr, hasBegun, begunOr, chosen, anyPaused, ready, replyFirst, isLast, advanced, afterPacket, sentControl, sentCommand, polledBy, polled}
-use Rattle.machine.specs.Valid.{phased, apart, isBegun, Fits, PhaseFacts, ValidSlot, ValidSlots, two, ValidFlags, Valid, Sound}
+use Rattle.machine.specs.Valid.{phased, apart, isBegun, Fits, PhaseFacts, ValidSlot, ValidSlots, two, ValidFlags, ValidNumbers, Valid, Sound}
 use Rattle.machine.specs.Calls.{Call, receive, take!, read, complete, poll, timeout, reset, step, begin}
 use Rattle.machine.specs.Types.{Ticket, Assembly, Taking, Untaken, Taken, Request, Response, Outgoing, Held, NoResponse, Last, Phase, Idle, Receive, Process, Answered, Transmit, Slot, Endpoint, Done, TakeDone, Ready, Nothing, From, Acted}
 use Rattle.machine.proofs.Slots.{held-idle, other-most, slot-facts, facts-at, apart-left, apart-new-left, apart-new-right}
-use Rattle.machine.proofs.Receiving.{Joining, filled, grown, Walk, csi-most, walked}
+use Rattle.machine.proofs.Receiving.{Units, Joining, filled, grown, Walk, csi-most, walked}
 
 -- ---- flags
 
@@ -70,7 +72,7 @@ flag-valid n =
 
 -- ---- one part of the state changed
 
-pub with-slots : {e : Endpoint} {l : List Slot} → Valid e → ValidSlots (e .turn) l → Valid (withSlots e l)
+pub with-slots : {e : Endpoint} {l : List Slot} → Valid e → ValidSlots (e .unit) (e .turn) l → Valid (withSlots e l)
 with-slots v s =
     record {
       numbers = v .numbers;
@@ -107,13 +109,13 @@ abbrev Beside : ℕ → Slot → Slot → Type 0
 Beside zero s o = apart (s .phase) (o .phase) ≡ true
 Beside (suc n) s o = apart (o .phase) (s .phase) ≡ true
 
-set-slot : {turn : ℕ} {l : List Slot} (i : ℕ) → i ≤ 1 → ValidSlots turn l → (s : Slot) → ValidSlot turn i s
-    → Beside i s (getD l (otherSlot i) (fresh (ticket 0))) → ValidSlots turn (set l i s)
+set-slot : {unit turn : ℕ} {l : List Slot} (i : ℕ) → i ≤ 1 → ValidSlots unit turn l → (s : Slot) → ValidSlot unit turn i s
+    → Beside i s (getD l (otherSlot i) (fresh (ticket 0))) → ValidSlots unit turn (set l i s)
 set-slot zero h (two vs vt k) s v b = two v vt b
 set-slot (suc zero) h (two vs vt k) s v b = two vs v b
 set-slot (suc (suc n)) h w s v b = absurd (omega arith)
 
-pub kept-slot : {e : Endpoint} (i : ℕ) → i ≤ 1 → Valid e → (s : Slot) → ValidSlot (e .turn) i s → Beside i s (slotAt e (otherSlot i)) → Valid (withSlot e i s)
+pub kept-slot : {e : Endpoint} (i : ℕ) → i ≤ 1 → Valid e → (s : Slot) → ValidSlot (e .unit) (e .turn) i s → Beside i s (slotAt e (otherSlot i)) → Valid (withSlot e i s)
 kept-slot i h v s f b = with-slots v (set-slot i h (v .slots-valid) s f b)
 
 -- a phase that gathers nothing and is not begun
@@ -145,7 +147,7 @@ beside-quiet : (i : ℕ) (s o : Slot) → isQuiet (s .phase) ≡ true → Beside
 beside-quiet zero s o h = apart-left (s .phase) (o .phase) (quiet-gathers (s .phase) h)
 beside-quiet (suc n) s o h = quiet-right (o .phase) (s .phase) h
 
-pub kept-quiet : {e : Endpoint} (i : ℕ) → i ≤ 1 → Valid e → (s : Slot) → PhaseFacts (s .paused) (s .phase) → isQuiet (s .phase) ≡ true → Valid (withSlot e i s)
+pub kept-quiet : {e : Endpoint} (i : ℕ) → i ≤ 1 → Valid e → (s : Slot) → PhaseFacts (e .unit) (s .paused) (s .phase) → isQuiet (s .phase) ≡ true → Valid (withSlot e i s)
 kept-quiet {e} i h v s f q =
     kept-slot i h v s (record { phase-facts = f; begun-turn = λ b. quiet-begun (s .phase) q b }) (beside-quiet i s (slotAt e (otherSlot i)) q)
 
@@ -157,7 +159,7 @@ beside-new zero s o a e h = rw e (apart-new-left a (o .phase) h)
 beside-new (suc n) s o a e h = rw e (apart-new-right (o .phase) a h)
 
 -- the same phase and flag as before
-beside-at : {turn : ℕ} {l : List Slot} (i : ℕ) → i ≤ 1 → ValidSlots turn l
+beside-at : {unit turn : ℕ} {l : List Slot} (i : ℕ) → i ≤ 1 → ValidSlots unit turn l
     → Beside i (getD l i (fresh (ticket 0))) (getD l (otherSlot i) (fresh (ticket 0)))
 beside-at zero h (two vs vt k) = k
 beside-at (suc zero) h (two vs vt k) = k
@@ -191,9 +193,9 @@ calmer-apart p p′ q (Process r) c d h = refl
 calmer-apart p p′ q (Answered r) c d h = refl
 calmer-apart p p′ q (Transmit r) c d h = refl
 
-on-both-valid : {turn : ℕ} {l : List Slot} (f : Slot → Slot) → ((s : Slot) → PhaseFacts (s .paused) (s .phase) → PhaseFacts (f s .paused) (f s .phase))
-    → ((s : Slot) → PhaseFacts (s .paused) (s .phase) → Calmer (s .phase) (f s .phase)) → ValidSlots turn l
-    → ValidSlots turn (f (getD l 0 (fresh (ticket 0))) ∷ f (getD l 1 (fresh (ticket 0))) ∷ [])
+on-both-valid : {unit turn : ℕ} {l : List Slot} (f : Slot → Slot) → ((s : Slot) → PhaseFacts unit (s .paused) (s .phase) → PhaseFacts unit (f s .paused) (f s .phase))
+    → ((s : Slot) → PhaseFacts unit (s .paused) (s .phase) → Calmer (s .phase) (f s .phase)) → ValidSlots unit turn l
+    → ValidSlots unit turn (f (getD l 0 (fresh (ticket 0))) ∷ f (getD l 1 (fresh (ticket 0))) ∷ [])
 on-both-valid f facts calm (two {s} {t} vs vt k) =
     let cs = calm s (vs .phase-facts) in
     let ct = calm t (vt .phase-facts) in
@@ -208,31 +210,35 @@ idle-calm : (p : Phase) → Calmer p (Idle NoResponse)
 idle-calm p = record { fewer = λ s t h. refl; was = λ b h. cc; begun = λ h. cc }
 
 -- Pause
-flag-facts : (b : Bool) (p : Phase) → isIdle p ≡ false → PhaseFacts b p → PhaseFacts true p
-flag-facts b (Idle held) h f = (h, f .1)
-flag-facts b (Receive a) h f = f
-flag-facts b (Process r) h f = f
-flag-facts b (Answered r) h f = (refl, f .1)
-flag-facts b (Transmit r) h f = f
+flag-facts : (unit : ℕ) (b : Bool) (p : Phase) → isIdle p ≡ false → PhaseFacts unit b p → PhaseFacts unit true p
+flag-facts unit b (Idle held) h f = (h, f .1)
+flag-facts unit b (Receive a) h f = f
+flag-facts unit b (Process r) h f = f
+flag-facts unit b (Answered r) h f = (refl, f .1)
+flag-facts unit b (Transmit r) h f = f
 
-paused-facts : (s : Slot) → PhaseFacts (s .paused) (s .phase) → PhaseFacts (pausedSlot s .paused) (pausedSlot s .phase)
-paused-facts s f =
-    if-ind (λ (x : Slot). PhaseFacts (x .paused) (x .phase)) (isIdle (s .phase)) (λ _. f) (λ h. flag-facts (s .paused) (s .phase) h f)
+paused-facts : (unit : ℕ) (s : Slot) → PhaseFacts unit (s .paused) (s .phase) → PhaseFacts unit (pausedSlot s .paused) (pausedSlot s .phase)
+paused-facts unit s f =
+    if-ind (λ (x : Slot). PhaseFacts unit (x .paused) (x .phase)) (isIdle (s .phase)) (λ _. f) (λ h. flag-facts unit (s .paused) (s .phase) h f)
 
 paused-calm : (s : Slot) → Calmer (s .phase) (pausedSlot s .phase)
 paused-calm s = if-ind (λ (x : Slot). Calmer (s .phase) (x .phase)) (isIdle (s .phase)) (λ _. same-calm (s .phase)) (λ _. same-calm (s .phase))
 
 pub pause-valid : {e : Endpoint} → Valid e → Valid (pause e)
 unfolding pause
-pause-valid v = with-slots v (on-both-valid pausedSlot paused-facts (λ s _. paused-calm s) (v .slots-valid))
+pause-valid {e} v = with-slots v (on-both-valid pausedSlot (paused-facts (e .unit)) (λ s _. paused-calm s) (v .slots-valid))
+
+-- a response of which no packet went has one left
+none-went : (unit : ℕ) (r : Response) → Fits r → unit * 0 < r .length
+none-went unit r f = rw mul-zero (omega (arith, f .least))
 
 -- Resume
-released-facts : (b : Bool) (p : Phase) → PhaseFacts b p → PhaseFacts false (released p)
-released-facts b (Idle held) f = (refl, f .1)
-released-facts b (Receive a) f = f
-released-facts b (Process r) f = f
-released-facts b (Answered r) f = (omega (arith, f .1 .least), f .1)
-released-facts b (Transmit r) f = f
+released-facts : (unit : ℕ) (b : Bool) (p : Phase) → PhaseFacts unit b p → PhaseFacts unit false (released p)
+released-facts unit b (Idle held) f = (refl, f .1)
+released-facts unit b (Receive a) f = f
+released-facts unit b (Process r) f = f
+released-facts unit b (Answered r) f = (none-went unit r (f .1), f .1)
+released-facts unit b (Transmit r) f = f
 
 released-calm : (p : Phase) → Calmer p (released p)
 released-calm (Idle held) = same-calm (Idle held)
@@ -243,14 +249,14 @@ released-calm (Transmit r) = same-calm (Transmit r)
 
 pub resume-valid : {e : Endpoint} → Valid e → Valid (resume e)
 unfolding resume
-resume-valid v =
+resume-valid {e} v =
     with-slots v
-    (on-both-valid resumedSlot (λ s f. released-facts (s .paused) (s .phase) f) (λ s _. released-calm (s .phase)) (v .slots-valid))
+    (on-both-valid resumedSlot (λ s f. released-facts (e .unit) (s .paused) (s .phase) f) (λ s _. released-calm (s .phase)) (v .slots-valid))
 
 -- an assembly ends
-ended-facts : (source tag : ℕ) (s : Slot) → PhaseFacts (s .paused) (s .phase) → PhaseFacts (endedSlot source tag s .paused) (endedSlot source tag s .phase)
-ended-facts source tag s f =
-    if-ind (λ (x : Slot). PhaseFacts (x .paused) (x .phase)) (gathers source tag (s .phase)) (λ _. (refl, tt)) (λ _. f)
+ended-facts : (unit source tag : ℕ) (s : Slot) → PhaseFacts unit (s .paused) (s .phase) → PhaseFacts unit (endedSlot source tag s .paused) (endedSlot source tag s .phase)
+ended-facts unit source tag s f =
+    if-ind (λ (x : Slot). PhaseFacts unit (x .paused) (x .phase)) (gathers source tag (s .phase)) (λ _. (refl, tt)) (λ _. f)
 
 ended-calm : (source tag : ℕ) (s : Slot) → Calmer (s .phase) (endedSlot source tag s .phase)
 ended-calm source tag s =
@@ -258,8 +264,8 @@ ended-calm source tag s =
 
 pub end-valid : {e : Endpoint} (source tag : ℕ) → Valid e → Valid (endAssembly e source tag)
 unfolding endAssembly
-end-valid source tag v =
-    with-slots v (on-both-valid (endedSlot source tag) (ended-facts source tag) (λ s _. ended-calm source tag s) (v .slots-valid))
+end-valid {e} source tag v =
+    with-slots v (on-both-valid (endedSlot source tag) (ended-facts (e .unit) source tag) (λ s _. ended-calm source tag s) (v .slots-valid))
 
 -- ---- the endpoint and its stores
 
@@ -284,16 +290,16 @@ put-store : {w : World} (i at : ℕ) (bytes : List ℕ) → at + length bytes �
 put-store {w} i at bytes h s = length-put (storeAt w i) at bytes (rw (store-at i s) h) ∙ store-at i s
 
 -- a response that settles
-settled-facts : (b : Bool) (r : Response) → Fits r → PhaseFacts b (settled b r) × (isQuiet (settled b r) ≡ true)
-settled-facts true r f = ((refl, f), refl)
-settled-facts false r f = ((omega (arith, f .least), f), refl)
+settled-facts : (unit : ℕ) (b : Bool) (r : Response) → Fits r → PhaseFacts unit b (settled b r) × (isQuiet (settled b r) ≡ true)
+settled-facts unit true r f = ((refl, f), refl)
+settled-facts unit false r f = ((none-went unit r f, f), refl)
 
 pub responded-sound : {w : World} (i : ℕ) (r : Request) (body : List ℕ) → i ≤ 1 → 4 ≤ length body → length body ≤ 4216 → Sound w → Sound (responded w i r body)
 unfolding responded
 responded-sound {w} i r body is lo hi s =
     let n = length-response (r .kind) i body in
     let room : response-place + length (response (r .kind) i body) ≤ store-size = rw n (omega arith) in
-    let k = settled-facts (slotAt (w .endpoint) i .paused) (responseTo r body) (record { least = omega arith; most = omega arith }) in
+    let k = settled-facts (w .endpoint .unit) (slotAt (w .endpoint) i .paused) (responseTo r body) (record { least = omega arith; most = omega arith }) in
     sound-endpoint (sound-store i _ s (put-store i response-place (response (r .kind) i body) room s))
     (kept-quiet i is (s .state) (withPhase (slotAt (w .endpoint) i) (settled (slotAt (w .endpoint) i .paused) (responseTo r body))) (k .0) (k .1))
 
@@ -327,8 +333,8 @@ replay-valid {e} i h v = go (heldIn (slotAt e i .phase)) refl
     go : (k : Held) → heldIn (slotAt e i .phase) ≡ k → StillValid (replayed e i k)
     go NoResponse q = v
     go (Last r) q =
-        let f : PhaseFacts (slotAt e i .paused) (Idle (Last r)) = rw (held-idle (slotAt e i .phase) r q) at (facts-at i h v) in
-        kept-quiet i h v (withPhase (slotAt e i) (Transmit (outgoing r 0))) (omega (arith, f .1 .least), f .1) refl
+        let f : PhaseFacts (e .unit) (slotAt e i .paused) (Idle (Last r)) = rw (held-idle (slotAt e i .phase) r q) at (facts-at i h v) in
+        kept-quiet i h v (withPhase (slotAt e i) (Transmit (outgoing r 0))) (none-went (e .unit) r (f .1), f .1) refl
 
 pub primitive-valid : {e : Endpoint} (opcode i : ℕ) (clear : Bool) → i ≤ 1 → Valid e → Valid (primitive e opcode i clear .endpoint)
 unfolding primitive abort
@@ -355,10 +361,10 @@ controlled-valid {e} h mh m is v = go (controlFault mh (opcodeOf m) (noParameter
 -- ---- receiving
 
 awaited-valid : {e : Endpoint} (i : ℕ) (a : Assembly) → i ≤ 1 → gathers (a .source) (a .tag) (slotAt e (otherSlot i) .phase) ≡ false
-    → unit ≤ a .length → a .length ≤ store-size → Valid e → Valid (withSlot e i (withPhase (slotAt e i) (Receive a)))
-awaited-valid {e} i a is free lo hi v =
+    → Units (e .unit) (a .length) → a .length ≤ store-size → Valid e → Valid (withSlot e i (withPhase (slotAt e i) (Receive a)))
+awaited-valid {e} i a is free u hi v =
     let s = withPhase (slotAt e i) (Receive a) in
-    kept-slot i is v s (record { phase-facts = (lo, hi); begun-turn = λ h. cc }) (beside-new i s (slotAt e (otherSlot i)) a refl free)
+    kept-slot i is v s (record { phase-facts = (u .least, hi, u .even); begun-turn = λ h. cc }) (beside-new i s (slotAt e (otherSlot i)) a refl free)
 
 abbrev After : Outcome → Type 0
 After o = Sound (o .world)
@@ -373,7 +379,7 @@ sound-walk w₀ packet s₀ =
       busying = λ w i b s. sound-endpoint s (busied-valid i (b .slot-is) true (s .state));
       dropping = λ w i n _ g s. refuse (dropped w i) n (sound-endpoint s (idled-valid i (g .slot-is) (s .state)));
       failing = λ w i at j s. refuse _ 19 (let f = fill w i at j s in sound-endpoint f (idled-valid i (j .slot-is) (f .state)));
-      gaining = λ w i at j _ lo s. sound-endpoint (fill w i at j s) (awaited-valid i (grown w₀ packet at) (j .slot-is) (j .alone) lo (j .fits) (s .state));
+      gaining = λ w i at j _ u s. sound-endpoint (fill w i at j s) (awaited-valid i (grown w₀ packet at) (j .slot-is) (j .alone) u (j .fits) (s .state));
       entering = λ w i at j _ lo _ s. entered-sound i (grown w₀ packet at) _ (j .slot-is) lo (j .fits) (fill w i at j s);
       controlling = λ w c s. sound-endpoint s (controlled-valid (fields packet) (messageHeader (payloadOf packet)) (payloadOf packet) (csi-most (payloadOf packet)) (s .state));
     }
@@ -422,7 +428,7 @@ pub taken-valid : (e : Endpoint) (i : ℕ) → Valid e → TakeLeft (taken e i)
 unfolding taken
 taken-valid e i v = if-ind TakeLeft (not (isSlot i)) (λ _. v) (λ h. from (slot-most i h) (slotAt e i .phase) refl)
   where
-    row : i ≤ 1 → (r : Request) (t : Taking) → PhaseFacts (slotAt e i .paused) (Process r) → TakeLeft (takenRow e i r t)
+    row : i ≤ 1 → (r : Request) (t : Taking) → PhaseFacts (e .unit) (slotAt e i .paused) (Process r) → TakeLeft (takenRow e i r t)
     row is r Untaken f = kept-quiet i is v _ f refl
     row is r Taken f = v
 
@@ -483,28 +489,36 @@ timeout-valid e i v =
     if-ind DoneLeft (not (isReceive (slotAt e i .phase)) || slotAt e i .paused) (λ _. v)
     (λ _. raised-valid (2 ^ 5) (mask 5 refl refl refl) (idled-valid i (slot-most i h) v)))
 
-started-valid : (eid flags : ℕ) (t u : Ticket) → 8 ≤ eid → eid ≤ 254 → ValidFlags flags → Valid (started eid flags t u)
-started-valid eid flags t u lo hi f =
+started-valid : (eid unit flags : ℕ) (t u : Ticket) → ValidNumbers eid unit 0 → ValidFlags flags → Valid (started eid unit flags t u)
+started-valid eid unit flags t u n f =
     record {
-      numbers = record { eid-least = lo; eid-most = hi; turn-most = omega arith };
+      numbers = n;
       slots-valid = two (fresh-valid 0 t) (fresh-valid 1 u) refl;
       flags-valid = f;
       reply-twelve = refl;
     }
   where
-    fresh-valid : (i : ℕ) (t : Ticket) → ValidSlot 0 i (fresh t)
+    fresh-valid : (i : ℕ) (t : Ticket) → ValidSlot unit 0 i (fresh t)
     fresh-valid i t = record { phase-facts = (refl, tt); begun-turn = λ b. cc }
 
 pub reset-valid : (e : Endpoint) → Valid e → DoneLeft (wasReset e)
 unfolding wasReset
-reset-valid e v = started-valid (e .eid) (2 ^ 14) _ _ (v .numbers .eid-least) (v .numbers .eid-most) (mask 14 refl refl refl)
+reset-valid e v =
+    let n = v .numbers in
+    started-valid (e .eid) (e .unit) (2 ^ 14) _ _
+    (record { eid-least = n .eid-least; eid-most = n .eid-most; unit-least = n .unit-least; unit-most = n .unit-most; turn-most = omega arith })
+    (mask 14 refl refl refl)
 
-pub setup-valid : (eid : ℕ) → DoneLeft (wasSetUp eid)
+pub setup-valid : (eid unit : ℕ) → DoneLeft (wasSetUp eid unit)
 unfolding wasSetUp
-setup-valid eid =
-    if-ind DoneLeft (ltb eid 8 || ltb 254 eid) (λ _. started-valid 8 0 _ _ (omega arith) (omega arith) zero-flags)
-    (λ h.
-    started-valid eid 0 _ _ (ltb-false eid 8 (or-left (ltb eid 8) (ltb 254 eid) h)) (ltb-false 254 eid (or-right (ltb eid 8) (ltb 254 eid) h)) zero-flags)
+setup-valid eid unit =
+    if-ind DoneLeft (eqb (setupRefusal eid unit) 0) (λ e. initial-valid eid unit (set-up-so eid unit (eqb-true (setupRefusal eid unit) 0 e)))
+    (λ _. initial-valid first-eid least-unit first-so)
+  where
+    initial-valid : (eid unit : ℕ) → SetUpSo eid unit → Valid (initial eid unit)
+    initial-valid eid unit k =
+        started-valid eid unit 0 _ _
+        (record { eid-least = k .eid-least; eid-most = k .eid-most; unit-least = k .unit-least; unit-most = k .unit-most; turn-most = omega arith }) zero-flags
 
 -- ---- polling
 
@@ -588,31 +602,31 @@ unfolding ready
 ready-at e v h = chosen-at e v (if-second (anyPaused e) (λ n. differ (cc n)) h .1)
 
 -- a response that is not at its last packet has one left behind it
-more-left : (r : Outgoing) → unit * r .sent < r .response .length → isLast r ≡ false → unit * (r .sent + 1) < r .response .length
-more-left r inside h =
+more-left : (unit : ℕ) → 0 < unit → (r : Outgoing) → unit * r .sent < r .response .length → isLast unit r ≡ false → unit * (r .sent + 1) < r .response .length
+more-left unit pos r inside h =
     let k = packets-bounds unit (r .response .length) in
-    let below : r .sent < packets unit (r .response .length) = k (r .sent) (omega arith) .1 inside in
-    k (r .sent + 1) (omega arith) .0 (omega (arith, eqb-false (r .sent + 1) (packets unit (r .response .length)) h))
+    let below : r .sent < packets unit (r .response .length) = k (r .sent) pos .1 inside in
+    k (r .sent + 1) pos .0 (omega (arith, eqb-false (r .sent + 1) (packets unit (r .response .length)) h))
 
 -- a slot that is not in Receive
-pub record Sending (s : Slot) : Type 0 where
-  pub facts : PhaseFacts (s .paused) (s .phase)
+pub record Sending (unit : ℕ) (s : Slot) : Type 0 where
+  pub facts : PhaseFacts unit (s .paused) (s .phase)
   pub left : (q : Phase) → apart (s .phase) q ≡ true
   pub right : (q : Phase) → apart q (s .phase) ≡ true
 
-after-packet : (s : Slot) (r : Outgoing) → PhaseFacts (s .paused) (Transmit r) → Sending (afterPacket s r)
-after-packet s r f =
-    if-ind Sending (isLast r) (λ _. record { facts = (refl, f .1); left = λ q. apart-left (Idle (Last (r .response))) q (λ a b. refl); right = λ q. refl })
+after-packet : (unit : ℕ) → 0 < unit → (s : Slot) (r : Outgoing) → PhaseFacts unit (s .paused) (Transmit r) → Sending unit (afterPacket unit s r)
+after-packet unit pos s r f =
+    if-ind (Sending unit) (isLast unit r) (λ _. record { facts = (refl, f .1); left = λ q. apart-left (Idle (Last (r .response))) q (λ a b. refl); right = λ q. refl })
     (λ h.
     record {
-      facts = (more-left r (f .0) h, record { least = f .1 .least; most = f .1 .most });
+      facts = (more-left unit pos r (f .0) h, record { least = f .1 .least; most = f .1 .most });
       left = λ q. apart-left (Transmit (advanced r)) q (λ a b. refl);
       right = λ q. refl;
     })
 
 -- slot i's packet has gone, so that the other slot's turn is next
-sent-slots : {turn : ℕ} {l : List Slot} (i : ℕ) → i ≤ 1 → ValidSlots turn l → (s : Slot) → Sending s
-    → (isBegun (getD l (otherSlot i) (fresh (ticket 0)) .phase) ≡ true → ⊥) → ValidSlots (otherSlot i) (set l i s)
+sent-slots : {unit turn : ℕ} {l : List Slot} (i : ℕ) → i ≤ 1 → ValidSlots unit turn l → (s : Slot) → Sending unit s
+    → (isBegun (getD l (otherSlot i) (fresh (ticket 0)) .phase) ≡ true → ⊥) → ValidSlots unit (otherSlot i) (set l i s)
 sent-slots zero h (two {s = a} {t = b} vs vt k) s v n =
     two (record { phase-facts = v .facts; begun-turn = λ _. refl }) (record { phase-facts = vt .phase-facts; begun-turn = λ g. absurd (n g) }) (v .left (b .phase))
 sent-slots (suc zero) h (two {s = a} {t = b} vs vt k) s v n =
@@ -625,12 +639,13 @@ PollLeft p = Valid (p .endpoint)
 pub command-valid : (w : World) (i : ℕ) (r : Outgoing) (buffer : List ℕ) → Chosen (w .endpoint) i r → Valid (w .endpoint) → PollLeft (sentCommand w i r buffer)
 unfolding sentCommand
 command-valid w i r buffer c v =
+    let n = v .numbers in
     let turned : sentCommand w i r buffer .endpoint .turn ≡ otherSlot i = refl in
     record {
-      numbers = record { eid-least = v .numbers .eid-least; eid-most = v .numbers .eid-most; turn-most = rw turned (other-most i) };
+      numbers = record { eid-least = n .eid-least; eid-most = n .eid-most; unit-least = n .unit-least; unit-most = n .unit-most; turn-most = rw turned (other-most i) };
       slots-valid =
           sent-slots i (c .slot-is) (v .slots-valid) _
-          (after-packet (slotAt (w .endpoint) i) r (rw (c .sends) at (facts-at i (c .slot-is) v))) (c .first-of-two);
+          (after-packet (w .endpoint .unit) (omega (arith, n .unit-least)) (slotAt (w .endpoint) i) r (rw (c .sends) at (facts-at i (c .slot-is) v))) (c .first-of-two);
       flags-valid = v .flags-valid;
       reply-twelve = v .reply-twelve;
     }
@@ -648,7 +663,7 @@ control-valid e buffer v =
 pub polled-valid : (w : World) (buffer : List ℕ) → Valid (w .endpoint) → PollLeft (polled w buffer)
 unfolding polled
 polled-valid w buffer v =
-    if-ind PollLeft (wrongStores w) (λ _. v) (λ _. if-ind PollLeft (ltb (length buffer) packet-room) (λ _. v) (λ _. by (ready (w .endpoint)) refl))
+    if-ind PollLeft (wrongStores w) (λ _. v) (λ _. if-ind PollLeft (ltb (length buffer) (packetRoom (w .endpoint))) (λ _. v) (λ _. by (ready (w .endpoint)) refl))
   where
     by : (x : Ready) → ready (w .endpoint) ≡ x → PollLeft (polledBy w buffer x)
     by Nothing h = if-ind PollLeft (w .endpoint .«reply_waits») (λ _. control-valid (w .endpoint) buffer v) (λ _. v)
@@ -658,9 +673,9 @@ polled-valid w buffer v =
 
 -- ---- THE LAWS: setup gives the invariant, and every call keeps it, whatever it is given. Stores of the right length keep it.
 
-pub begin-valid : (eid : ℕ) (store0 store1 : List ℕ) → Valid (begin eid store0 store1 .endpoint)
+pub begin-valid : (eid unit : ℕ) (store0 store1 : List ℕ) → Valid (begin eid unit store0 store1 .endpoint)
 unfolding begin
-begin-valid eid store0 store1 = setup-valid eid
+begin-valid eid unit store0 store1 = setup-valid eid unit
 
 pub step-valid : (c : Call) (w : World) → Valid (w .endpoint) → Valid (step c w .world .endpoint)
 unfolding step

@@ -1,16 +1,18 @@
 -- Taking, completing, timeout, polling and setup in document 01's numbers.
 -- Assumes nothing.
-use Prim.Native.Nat.{ℕ, zero, suc, _^_, _≤_}
-use mathlib.Core.Path.{_≡_, refl, ap}
+use Prim.Native.Nat.{ℕ, zero, suc, _+_, _^_, _≤_}
+use mathlib.Core.Path.{_≡_, refl, sym, ap, _∙_}
 use mathlib.Core.Bool.{Bool, true, false, not, _&&_, _||_}
 use mathlib.Core.List.{List, [], _∷_, _++_}
 use native.Mathlib.Omega.{arith}
-use lib.Dec.{eqb, leb, ltb}
+use lib.Dec.{eqb, ltb}
 use lib.ListN.{length, take, drop}
 use lib.Seq.{take-append-seam}
-use borrow.Author.Tests.{ltb-true, ltb-false, lt-ltb, le-ltb, le-leb, lt-leb}
+use borrow.Author.Tests.{ltb-true, ltb-false, lt-ltb, le-ltb, eqb-true}
 use Rattle.lent.proofs.Choice.{differ}
 use Rattle.lent.specs.Choice.{if_then_else_}
+use Rattle.mctp.specs.Setup.{setupRefusal, setupNumber}
+use Rattle.mctp.proofs.Laws.{setup-numbers as so}
 use Rattle.machine.specs.State.{World, outcome, ended, slotAt, withSlot, idled}
 use Rattle.machine.specs.Wire.{wrongStores}
 use Rattle.machine.specs.Finish.{isSlot, takenRow, takenFrom, taken, takeSays, isPresent, completedRow, completedIn, completed, isReceive, timedOut, wasSetUp}
@@ -19,7 +21,7 @@ use Rattle.machine.specs.Receive.{raised}
 use Rattle.machine.specs.Poll.{Polled, polledTo, pollSays, chosen, ready, replyFirst, controlPacket, commandPacket, sentControl, sentCommand, polledBy, polled}
 use Rattle.machine.specs.Valid.{phased, Valid}
 use Rattle.machine.specs.Calls.{pollEvent, step}
-use Rattle.machine.specs.History.{phaseAt, pausedAt, isTransmit}
+use Rattle.machine.specs.History.{phaseAt, pausedAt, isTransmit, unitOf}
 use Rattle.machine.specs.Numbers.{isTaken, takeNumbers, TakeNumbers, rightSizes, completeIn, CompleteNumbers, isReceiving, timeoutNumber, TimeoutNumbers, isCommandReady, pollNumber, lengthOut, PollNumbers, SetUp, SetupNumbers}
 use Rattle.machine.specs.Types.{Taking, Untaken, Taken, Request, Outgoing, Phase, Idle, Receive, Process, Answered, Transmit, Endpoint, Ready, Nothing, From}
 use Rattle.machine.specs.declared.PollAnswer.the-variants.{Refused, Nothing as Silent, Packet}
@@ -194,14 +196,14 @@ poll-numbers w buffer v = stores (eqb (length (w .store0)) 4224) refl (eqb (leng
         first true = unfold sentControl in (goes (controlPacket (w .endpoint)) (w .endpoint))
         first false = unfold sentCommand in (goes (commandPacket w i r) (w .endpoint))
 
-    room : (b : Bool) → ltb (length buffer) 68 ≡ b
+    room : (b : Bool) → ltb (length buffer) (unitOf w + 4) ≡ b
         → Says (if b then 36 else if w .endpoint .«reply_waits» || isCommandReady w then 1 else 0)
         (if b then polledTo (Refused 36) (w .endpoint) buffer else polledBy w buffer (ready (w .endpoint)))
     room true e = refl
     room false e = by (ready (w .endpoint)) refl
 
     stores : (a : Bool) → eqb (length (w .store0)) 4224 ≡ a → (b : Bool) → eqb (length (w .store1)) 4224 ≡ b → Says (pollNumber w buffer) (polled w buffer)
-    stores true e true f = unfold polled in (rw (e, f) (room (ltb (length buffer) 68) refl))
+    stores true e true f = unfold polled in (rw (e, f) (room (ltb (length buffer) (unitOf w + 4)) refl))
     stores true e false f = unfold polled in (rw (e, f) refl)
     stores false e b f = unfold polled in (rw e refl)
 
@@ -209,17 +211,13 @@ poll-numbers w buffer v = stores (eqb (length (w .store0)) 4224) refl (eqb (leng
 
 pub setup-numbers : SetupNumbers
 unfolding wasSetUp
-setup-numbers eid = by (ltb eid 8) refl (ltb 254 eid) refl
+setup-numbers eid unit = by (eqb (setupNumber eid unit) 0) refl (ap (λ (n : ℕ). eqb n 0) (so eid unit))
   where
-    by : (a : Bool) → ltb eid 8 ≡ a → (b : Bool) → ltb 254 eid ≡ b → SetUp eid
-    by true e b f =
-        let x : leb 8 eid ≡ false = lt-leb 8 eid (ltb-true eid 8 e) in
-        unfold wasSetUp in (record { number-is = rw (e, x) refl; eid-is = rw (e, x) refl; state-is = rw (x, e) refl })
-    by false e true f =
-        let x : leb 8 eid ≡ true = le-leb 8 eid (ltb-false eid 8 e) in
-        let y : leb eid 254 ≡ false = lt-leb eid 254 (ltb-true 254 eid f) in
-        unfold wasSetUp in (record { number-is = rw (e, f, x, y) refl; eid-is = rw (e, f, x, y) refl; state-is = rw (x, y, e, f) refl })
-    by false e false f =
-        let x : leb 8 eid ≡ true = le-leb 8 eid (ltb-false eid 8 e) in
-        let y : leb eid 254 ≡ true = le-leb eid 254 (ltb-false 254 eid f) in
-        unfold wasSetUp in (record { number-is = rw (e, f, x, y) refl; eid-is = rw (e, f, x, y) refl; state-is = rw (x, y, e, f) refl })
+    by : (b : Bool) → eqb (setupNumber eid unit) 0 ≡ b → eqb (setupRefusal eid unit) 0 ≡ eqb (setupNumber eid unit) 0 → SetUp eid unit
+    by true e q =
+        let x : eqb (setupRefusal eid unit) 0 ≡ true = q ∙ e in
+        let n : setupNumber eid unit ≡ 0 = eqb-true (setupNumber eid unit) 0 e in
+        unfold wasSetUp in (record { number-is = rw x (sym n); eid-is = rw (e, x) refl; unit-is = rw (e, x) refl; state-is = rw (e, x) refl })
+    by false e q =
+        let x : eqb (setupRefusal eid unit) 0 ≡ false = q ∙ e in
+        unfold wasSetUp in (record { number-is = rw x (so eid unit); eid-is = rw (e, x) refl; unit-is = rw (e, x) refl; state-is = rw (e, x) refl })

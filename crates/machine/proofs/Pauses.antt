@@ -18,7 +18,7 @@ use Rattle.nvme_mi.specs.Response.{faultBody}
 use Rattle.nvme_mi.specs.declared.Fault.{Fault}
 use Rattle.nvme_mi.specs.declared.Fault.the-variants.{NoFault, Parameter, Failure}
 use Rattle.machine.specs.State.{World, Outcome, outcome, slot, slotAt, storeAt, withSlot, withEndpoint, onSlot, withPhase, withPaused, withBusy, idled, heldIn, isIdle, outgoing, settled}
-use Rattle.machine.specs.Wire.{unit, opcodeOf, noParameter, clearsFlags}
+use Rattle.machine.specs.Wire.{opcodeOf, noParameter, clearsFlags}
 use Rattle.machine.specs.Control.{pausedSlot, pause, abort, clearFlags, replayed, replay, primitive, controlledBy, controlled}
 use Rattle.machine.specs.Process.{processing, responseTo, responded, respondedAtOnce, pausedIf, entered}
 use Rattle.machine.specs.Receive.{refused, refusedBusy, dropped, gathers, endedSlot, endAssembly, received}
@@ -32,7 +32,7 @@ use Rattle.machine.specs.Replies.{slotFound, actedOn}
 use Rattle.machine.specs.Pauses.{pauses, resumes, restarts, flagAfter, FlagsMove}
 use Rattle.machine.specs.Types.{Response, Held, NoResponse, Last, Phase, Idle, Receive, Process, Answered, Transmit, Slot, Endpoint, Acted}
 use Rattle.machine.proofs.Slots.{held-idle, held-not, facts-at, other-most}
-use Rattle.machine.proofs.Receiving.{Joining, filled, grown, whole, Controls, Busy, Gathering, Ground, in-table, of-control, of-no-slot, Break, in-sequence, in-size, in-total, Walk, csi-most, receives-gathers, walked}
+use Rattle.machine.proofs.Receiving.{Units, Joining, filled, grown, whole, Controls, Busy, Gathering, Ground, in-table, of-control, of-no-slot, Break, in-sequence, in-size, in-total, Walk, csi-most, receives-gathers, walked}
 use Rattle.machine.proofs.Primitives.{is-primitive, acting}
 use Rattle.machine.proofs.Keeps.{received-sound, chosen-at, step-sound}
 use Rattle.machine.proofs.Places.{Which, this, that, which, slot-this, slot-that, slot-both}
@@ -46,10 +46,10 @@ use Rattle.machine.proofs.Histories.{Good, good-every}
 
 -- ---- a slot's flag, where it need only be shown of a slot that is not Idle
 
-unless-idle : (s : Slot) (x : Bool) → PhaseFacts (s .paused) (s .phase) → (isIdleNow (s .phase) ≡ false → s .paused ≡ x) → s .paused ≡ (if isIdleNow (s .phase) then false else x)
-unless-idle s x f k = by (s .phase) refl f
+unless-idle : (unit : ℕ) (s : Slot) (x : Bool) → PhaseFacts unit (s .paused) (s .phase) → (isIdleNow (s .phase) ≡ false → s .paused ≡ x) → s .paused ≡ (if isIdleNow (s .phase) then false else x)
+unless-idle unit s x f k = by (s .phase) refl f
   where
-    by : (p : Phase) → s .phase ≡ p → PhaseFacts (s .paused) p → s .paused ≡ (if isIdleNow p then false else x)
+    by : (p : Phase) → s .phase ≡ p → PhaseFacts unit (s .paused) p → s .paused ≡ (if isIdleNow p then false else x)
     by (Idle held) e g = g .0
     by (Receive a) e g = k (ap isIdleNow e)
     by (Process r) e g = k (ap isIdleNow e)
@@ -102,8 +102,8 @@ poll-flagged w s buffer = by (poll-case w buffer s)
     by (still n _) = λ j js _. refl
     by (replies _ _) = λ j js _. refl
     by (sends k q c _) =
-        one-flagged (w .endpoint) (s .state) k (chosen-at (w .endpoint) (s .state) c .slot-is) (afterPacket (slotAt (w .endpoint) k) q)
-        (if-ind (λ (x : Slot). isIdleNow (x .phase) ≡ false → x .paused ≡ slotAt (w .endpoint) k .paused) (isLast q) (λ _ n. false-true (sym n)) (λ _ _. refl))
+        one-flagged (w .endpoint) (s .state) k (chosen-at (w .endpoint) (s .state) c .slot-is) (afterPacket (w .endpoint .unit) (slotAt (w .endpoint) k) q)
+        (if-ind (λ (x : Slot). isIdleNow (x .phase) ≡ false → x .paused ≡ slotAt (w .endpoint) k .paused) (isLast (w .endpoint .unit) q) (λ _ n. false-true (sym n)) (λ _ _. refl))
 
 -- ---- Pause
 
@@ -117,7 +117,7 @@ paused-so s = by (isIdle (s .phase)) refl
 -- ---- receiving
 
 module _ (w₀ : World) (p : List ℕ) (trace : ℕ → Trace) (s₀ : Sound w₀)
-    (fits : (j : ℕ) → j ≤ 1 → Fit (slotAt (w₀ .endpoint) j) (storeAt w₀ j) (trace j)) where
+    (fits : (j : ℕ) → j ≤ 1 → Fit (w₀ .endpoint .unit) (slotAt (w₀ .endpoint) j) (storeAt w₀ j) (trace j)) where
   -- the packet ends an assembly of slot j, and completes a command with CIAP 1
   abbrev ends : ℕ → Bool
   ends j = hasSom p && receivesFrom (sourceOf p) (messageTagOf p) (phaseAt w₀ j)
@@ -228,7 +228,7 @@ module _ (w₀ : World) (p : List ℕ) (trace : ℕ → Trace) (s₀ : Sound w�
   unfolding refused
   failing w i at j on = one-moves w on i 19 (j .slot-is) (omega arith) (idled (slotAt (w .endpoint) i)) (λ x. false-true (sym x))
 
-  gain : (w : World) (i at : ℕ) → Joining w₀ p w i at → unit ≤ at + length (payloadOf p) → On w
+  gain : (w : World) (i at : ℕ) → Joining w₀ p w i at → Units (w .endpoint .unit) (at + length (payloadOf p)) → On w
       → Moves (outcome 0 (onSlot (filled w₀ p w i at) i (withPhase (slotAt (w .endpoint) i) (Receive (grown w₀ p at)))))
   gain w i at j lo on k ks _ = by (which i k (j .slot-is) ks)
     where
@@ -392,7 +392,7 @@ module _ (w₀ : World) (p : List ℕ) (trace : ℕ → Trace) (s₀ : Sound w�
       ≡ flagAfter (phaseAt (o .world) j) (isPrimitive 0 (w₀ .endpoint .eid) p || (eqb (o .answer) 1 && ciaps)) (isPrimitive 1 (w₀ .endpoint .eid) p)
       (pausedAt w₀ j && not (ltb (o .answer) 2 && ends j))
 
-  facts-after : (j : ℕ) → j ≤ 1 → PhaseFacts (pausedAt (received w₀ p .world) j) (phaseAt (received w₀ p .world) j)
+  facts-after : (j : ℕ) → j ≤ 1 → PhaseFacts (received w₀ p .world .endpoint .unit) (pausedAt (received w₀ p .world) j) (phaseAt (received w₀ p .world) j)
   facts-after j js = facts-at j js (received-sound w₀ p s₀ .state)
 
   -- slot j after a primitive that acts
@@ -430,7 +430,7 @@ module _ (w₀ : World) (p : List ℕ) (trace : ℕ → Trace) (s₀ : Sound w�
 
   other-told : isPrimitive 0 (w₀ .endpoint .eid) p ≡ false → isPrimitive 1 (w₀ .endpoint .eid) p ≡ false → (j : ℕ) → j ≤ 1 → Told j (received w₀ p)
   other-told a b j js =
-      rw (a, b) (unless-idle (slotAt (received w₀ p .world .endpoint) j) (flagBy (received w₀ p .answer) j) (facts-after j js) (received-moves a b j js))
+      rw (a, b) (unless-idle (received w₀ p .world .endpoint .unit) (slotAt (received w₀ p .world .endpoint) j) (flagBy (received w₀ p .answer) j) (facts-after j js) (received-moves a b j js))
 
   pub received-told : (j : ℕ) → j ≤ 1 → Told j (received w₀ p)
   received-told j js = by (isPrimitive 0 (w₀ .endpoint .eid) p) refl (isPrimitive 1 (w₀ .endpoint .eid) p) refl
@@ -445,7 +445,7 @@ module _ (w₀ : World) (p : List ℕ) (trace : ℕ → Trace) (s₀ : Sound w�
 -- a call that is not receiving
 quiet-told : (w f : World) → Sound f → Flagged (w .endpoint) (f .endpoint) → (j : ℕ) → j ≤ 1 → pausedAt f j ≡ flagAfter (phaseAt f j) false false (pausedAt w j && not false)
 quiet-told w f s k j js =
-    unless-idle (slotAt (f .endpoint) j) (pausedAt w j && not false) (facts-at j js (s .state)) (λ n. k j js n ∙ sym (and-true (pausedAt w j)))
+    unless-idle (f .endpoint .unit) (slotAt (f .endpoint) j) (pausedAt w j && not false) (facts-at j js (s .state)) (λ n. k j js n ∙ sym (and-true (pausedAt w j)))
 
 flags-so : (h : History) → Good h → (c : Call) (i : ℕ) → i ≤ 1
     → pausedAt (step c (h .world) .world) i
@@ -462,4 +462,4 @@ flags-so h g (timeout j) i is = quiet-told (h .world) _ (step-sound (timeout j) 
 flags-so h g reset i is = quiet-told (h .world) _ (step-sound reset (h .world) (g .sound)) (reset-flagged (h .world .endpoint)) i is
 
 pub flags-move : FlagsMove
-flags-move eid store0 store1 a b xs c i is = flags-so (run xs (start eid store0 store1)) (good-every eid store0 store1 a b xs) c i is
+flags-move eid unit store0 store1 a b xs c i is = flags-so (run xs (start eid unit store0 store1)) (good-every eid unit store0 store1 a b xs) c i is

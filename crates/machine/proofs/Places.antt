@@ -13,15 +13,16 @@ use Rattle.machine.specs.Poll.{otherSlot}
 use Rattle.machine.specs.Valid.{ValidSlots, two, Valid}
 use Rattle.machine.specs.Types.{Slot, Endpoint}
 
--- ---- what most steps leave alone: the EID, the turn, and whether the last packet was control
+-- ---- what most steps leave alone: the EID, the unit, the turn, and whether the last packet was control
 
 pub record Framed : Type 0 where
   pub eid : ℕ
+  pub unit : ℕ
   pub turn : ℕ
   pub last : Bool
 
 abbrev pub framed : Endpoint → Framed
-framed e = record { eid = e .eid; turn = e .turn; last = e .«last_control» }
+framed e = record { eid = e .eid; unit = e .unit; turn = e .turn; last = e .«last_control» }
 
 -- a step that leaves it: `refl` where it computes, and one after the other by `∙`
 abbrev pub Frame : Endpoint → Endpoint → Type 0
@@ -29,6 +30,16 @@ Frame e f = framed f ≡ framed e
 
 pub frame-eid : (e f : Endpoint) → Frame e f → f .eid ≡ e .eid
 frame-eid e f k = ap (λ (x : Framed). x .eid) k
+
+pub frame-unit : (e f : Endpoint) → Frame e f → f .unit ≡ e .unit
+frame-unit e f k = ap (λ (x : Framed). x .unit) k
+
+-- an end's name and its unit: no call changes them
+abbrev pub endOf : Endpoint → ℕ × ℕ
+endOf e = (e .eid, e .unit)
+
+pub frame-end : (e f : Endpoint) → Frame e f → endOf f ≡ endOf e
+frame-end e f k = ap (λ (x : Framed). (x .eid, x .unit)) k
 
 pub frame-turn : (e f : Endpoint) → Frame e f → f .turn ≡ e .turn
 frame-turn e f k = ap (λ (x : Framed). x .turn) k
@@ -62,12 +73,12 @@ other-back (suc (suc n)) h = absurd (omega arith)
 
 -- ---- slots
 
-set-this : {turn : ℕ} {l : List Slot} (i : ℕ) → i ≤ 1 → ValidSlots turn l → (s : Slot) → getD (set l i s) i (fresh (ticket 0)) ≡ s
+set-this : {unit turn : ℕ} {l : List Slot} (i : ℕ) → i ≤ 1 → ValidSlots unit turn l → (s : Slot) → getD (set l i s) i (fresh (ticket 0)) ≡ s
 set-this zero h (two vs vt k) s = refl
 set-this (suc zero) h (two vs vt k) s = refl
 set-this (suc (suc n)) h v s = absurd (omega arith)
 
-set-that : {turn : ℕ} {l : List Slot} (i : ℕ) → i ≤ 1 → ValidSlots turn l → (s : Slot)
+set-that : {unit turn : ℕ} {l : List Slot} (i : ℕ) → i ≤ 1 → ValidSlots unit turn l → (s : Slot)
     → getD (set l i s) (otherSlot i) (fresh (ticket 0)) ≡ getD l (otherSlot i) (fresh (ticket 0))
 set-that zero h (two vs vt k) s = refl
 set-that (suc zero) h (two vs vt k) s = refl

@@ -14,11 +14,11 @@ use Rattle.lent.proofs.Choice.{if-ind, if-second, false-true, and-both, differ,
 use Rattle.mctp.specs.Cut.{packets, payload, packet}
 use Rattle.mctp.proofs.Laws.{payload-next}
 use Rattle.machine.specs.State.{World, slotAt, storeAt, withSlot, withEndpoint, replySent, packetSent}
-use Rattle.machine.specs.Wire.{unit, packet-room}
+use Rattle.machine.specs.Wire.{packetRoom}
 use Rattle.machine.specs.Poll.{Polled, otherSlot, chosen, anyPaused, ready, replyFirst, isLast, advanced, afterPacket, controlPacket, commandPacket, sentControl, sentCommand, polledBy, polled}
 use Rattle.machine.specs.Valid.{Valid, Sound}
 use Rattle.machine.specs.Calls.{poll, number, handed-out, Stepped, stepped, byPoll, step}
-use Rattle.machine.specs.History.{Trace, phaseAt, pausedAt, isTransmit, moved, sending, transmitted, traceAfter, counts}
+use Rattle.machine.specs.History.{Trace, phaseAt, pausedAt, isTransmit, moved, sending, transmitted, traceAfter, unitOf, hasRoom, counts}
 use Rattle.machine.specs.Demands.{isProcess}
 use Rattle.machine.specs.Types.{Outgoing, Last, Phase, Idle, Receive, Process, Answered, Transmit, Slot, Ready, Nothing, From}
 use Rattle.machine.proofs.Slots.{other-most}
@@ -39,7 +39,7 @@ pub data PollCase (w : World) (buffer : List ℕ) : Stepped → Type 0 where
   -- a command packet goes
   sends : (i : ℕ) (r : Outgoing) → chosen (w .endpoint) ≡ From i r → counts (poll buffer) w ≡ true
       → PollCase w buffer
-      (stepped (handed-out (commandPacket w i r)) (withEndpoint w (packetSent (withSlot (w .endpoint) i (afterPacket (slotAt (w .endpoint) i) r)) (otherSlot i))))
+      (stepped (handed-out (commandPacket w i r)) (withEndpoint w (packetSent (withSlot (w .endpoint) i (afterPacket (w .endpoint .unit) (slotAt (w .endpoint) i) r)) (otherSlot i))))
 
 both-false : (a b : Bool) → (not a && not b) ≡ true → (a || b) ≡ false
 both-false true b e = false-true e
@@ -53,8 +53,8 @@ pub poll-case : (w : World) (buffer : List ℕ) → Sound w → PollCase w buffe
 unfolding step polled
 poll-case w buffer s =
     rw (right-stores w s)
-    (if-ind After (ltb (length buffer) packet-room)
-    (λ short. still 36 (λ c. absurd (omega (arith, ltb-true (length buffer) packet-room short, leb-true 68 (length buffer) (and-both (leb 68 (length buffer)) flags c .0)))))
+    (if-ind After (ltb (length buffer) (packetRoom (w .endpoint)))
+    (λ short. still 36 (λ c. absurd (omega (arith, ltb-true (length buffer) (packetRoom (w .endpoint)) short, leb-true (unitOf w + 4) (length buffer) (and-both (hasRoom w buffer) flags c .0)))))
     (λ room. by room (ready (w .endpoint)) refl))
   where
     flags : Bool
@@ -66,7 +66,7 @@ poll-case w buffer s =
     -- a counted poll finds what is chosen
     unpaused : {x : Ready} → ready (w .endpoint) ≡ x → counts (poll buffer) w ≡ true → chosen (w .endpoint) ≡ x
     unpaused e c =
-        let k = both-false (pausedAt w 0) (pausedAt w 1) (and-both (leb 68 (length buffer)) (not (pausedAt w 0) && not (pausedAt w 1)) c .1) in
+        let k = both-false (pausedAt w 0) (pausedAt w 1) (and-both (hasRoom w buffer) (not (pausedAt w 0) && not (pausedAt w 1)) c .1) in
         unfold ready in (go (anyPaused (w .endpoint)) refl k e)
       where
         go : {x : Ready} (b : Bool) → anyPaused (w .endpoint) ≡ b → (pausedAt w 0 || pausedAt w 1) ≡ false
@@ -90,14 +90,14 @@ poll-case w buffer s =
     command-goes i r e c =
         unfold sentCommand in (rw (take-append-seam (commandPacket w i r) (drop (length (commandPacket w i r)) buffer)) (sends i r e c))
 
-    by : ltb (length buffer) packet-room ≡ false → (x : Ready) → ready (w .endpoint) ≡ x → After (polledBy w buffer x)
+    by : ltb (length buffer) (packetRoom (w .endpoint)) ≡ false → (x : Ready) → ready (w .endpoint) ≡ x → After (polledBy w buffer x)
     by room Nothing e =
         if-ind After (w .endpoint .«reply_waits») (λ a. control-goes a (λ c n. absurd (n (unpaused e c)))) (λ _. still 0 (unpaused e))
     by room (From i r) e =
         let k = found e in
         if-ind After (replyFirst (w .endpoint))
         (λ a. let b = and-both (w .endpoint .«reply_waits») (not (w .endpoint .«last_control»)) a in control-goes (b .0) (λ c n. not-true (w .endpoint .«last_control») (b .1)))
-        (λ _. command-goes i r (k .1) (rw (le-leb 68 (length buffer) (ltb-false (length buffer) packet-room room), false-both (pausedAt w 0) (pausedAt w 1) (k .0)) refl))
+        (λ _. command-goes i r (k .1) (rw (le-leb (unitOf w + 4) (length buffer) (ltb-false (length buffer) (packetRoom (w .endpoint)) room), false-both (pausedAt w 0) (pausedAt w 1) (k .0)) refl))
 
 -- ---- what the trace gains of a packet
 
@@ -118,8 +118,8 @@ pub data Onward (r : Outgoing) : Phase → Type 0 where
   done : Onward r (Idle (Last (r .response)))
   more : Onward r (Transmit (advanced r))
 
-pub onward : (s : Slot) (r : Outgoing) → Onward r (afterPacket s r .phase)
-onward s r = if-ind (λ (x : Slot). Onward r (x .phase)) (isLast r) (λ _. done) (λ _. more)
+pub onward : (unit : ℕ) (s : Slot) (r : Outgoing) → Onward r (afterPacket unit s r .phase)
+onward unit s r = if-ind (λ (x : Slot). Onward r (x .phase)) (isLast unit r) (λ _. done) (λ _. more)
 
 step-differs : (n : ℕ) → eqb (n + 1) n ≡ false
 step-differs n = ne-eqb (n + 1) n (λ e. omega arith)
@@ -138,18 +138,18 @@ onward-process done h = false-true h
 onward-process more h = false-true h
 
 -- the payloads and one more
-module _ (w : World) (i : ℕ) (r : Outgoing) (l : Trace) (g : Going r (storeAt w i) l) where
-  pub payload-of : drop 4 (commandPacket w i r) ≡ payload unit (l .response) (r .sent)
+module _ (w : World) (i : ℕ) (r : Outgoing) (l : Trace) (g : Going (w .endpoint .unit) r (storeAt w i) l) where
+  pub payload-of : drop 4 (commandPacket w i r) ≡ payload (w .endpoint .unit) (l .response) (r .sent)
   unfolding packet
   payload-of = rw (g .full .held) refl
 
-  pub joined : l .payloads ++ drop 4 (commandPacket w i r) ≡ take (unit * (r .sent + 1)) (l .response)
-  joined = rw (payload-of, g .paid) (payload-next unit (l .response) (r .sent))
+  pub joined : l .payloads ++ drop 4 (commandPacket w i r) ≡ take (w .endpoint .unit * (r .sent + 1)) (l .response)
+  joined = rw (payload-of, g .paid) (payload-next (w .endpoint .unit) (l .response) (r .sent))
 
   abbrev pub sentTrace : Trace
   sentTrace = sending l (l .packets + 1) (l .payloads ++ drop 4 (commandPacket w i r))
 
-  onward-fits : {q : Phase} → Onward r q → FitP q (storeAt w i) sentTrace
+  onward-fits : {q : Phase} → Onward r q → FitP (w .endpoint .unit) q (storeAt w i) sentTrace
   onward-fits done = record { held = g .full .held; size = g .full .size; to = g .full .to; under = g .full .under }
   onward-fits more =
       record {
@@ -160,32 +160,32 @@ module _ (w : World) (i : ℕ) (r : Outgoing) (l : Trace) (g : Going r (storeAt 
 
 -- ---- the fit after a poll
 
-pub record PollKept (s t : Slot) (store : List ℕ) (l m : Trace) : Type 0 where
-  pub fit : Fit t store m
+pub record PollKept (unit : ℕ) (s t : Slot) (store : List ℕ) (l m : Trace) : Type 0 where
+  pub fit : Fit unit t store m
   pub entry : Entry (s .phase) (t .phase) l m
 
-module _ (w : World) (buffer : List ℕ) (trace : ℕ → Trace) (s₀ : Sound w) (fits : (j : ℕ) → j ≤ 1 → Fit (slotAt (w .endpoint) j) (storeAt w j) (trace j)) where
+module _ (w : World) (buffer : List ℕ) (trace : ℕ → Trace) (s₀ : Sound w) (fits : (j : ℕ) → j ≤ 1 → Fit (w .endpoint .unit) (slotAt (w .endpoint) j) (storeAt w j) (trace j)) where
   abbrev KeptAt : Stepped → ℕ → Type 0
-  KeptAt s j = PollKept (slotAt (w .endpoint) j) (slotAt (s .world .endpoint) j) (storeAt (s .world) j) (trace j) (traceAfter j (poll buffer) w s (trace j))
+  KeptAt s j = PollKept (w .endpoint .unit) (slotAt (w .endpoint) j) (slotAt (s .world .endpoint) j) (storeAt (s .world) j) (trace j) (traceAfter j (poll buffer) w s (trace j))
 
-  same-kept : (j : ℕ) → j ≤ 1 → (m : Trace) → m ≡ trace j → PollKept (slotAt (w .endpoint) j) (slotAt (w .endpoint) j) (storeAt w j) (trace j) m
+  same-kept : (j : ℕ) → j ≤ 1 → (m : Trace) → m ≡ trace j → PollKept (w .endpoint .unit) (slotAt (w .endpoint) j) (slotAt (w .endpoint) j) (storeAt w j) (trace j) m
   same-kept j js m e = rw e (record { fit = fits j js; entry = stayed refl (λ h. (h, refl)) })
 
   -- the slot whose packet went
   sent-kept : (i : ℕ) (r : Outgoing) → i ≤ 1 → phaseAt w i ≡ Transmit r
-      → PollKept (slotAt (w .endpoint) i) (afterPacket (slotAt (w .endpoint) i) r) (storeAt w i) (trace i)
-      (transmitted (phaseAt w i) (afterPacket (slotAt (w .endpoint) i) r .phase) (handed-out (commandPacket w i r)) (trace i))
+      → PollKept (w .endpoint .unit) (slotAt (w .endpoint) i) (afterPacket (w .endpoint .unit) (slotAt (w .endpoint) i) r) (storeAt w i) (trace i)
+      (transmitted (phaseAt w i) (afterPacket (w .endpoint .unit) (slotAt (w .endpoint) i) r .phase) (handed-out (commandPacket w i r)) (trace i))
   sent-kept i r is p =
-      let g : Going r (storeAt w i) (trace i) = rw p at (fits i is .phase-fits) in
-      let o = onward (slotAt (w .endpoint) i) r in
+      let g : Going (w .endpoint .unit) r (storeAt w i) (trace i) = rw p at (fits i is .phase-fits) in
+      let o = onward (w .endpoint .unit) (slotAt (w .endpoint) i) r in
       rw (p, onward-traces (commandPacket w i r) (trace i) o)
       (record {
         fit = record { phase-fits = onward-fits w i r (trace i) g o; ticket-is = same-ticket ∙ fits i is .ticket-is };
         entry = stayed refl (λ h. onward-process o h);
       })
     where
-      same-ticket : afterPacket (slotAt (w .endpoint) i) r .ticket .0 ≡ slotAt (w .endpoint) i .ticket .0
-      same-ticket = if-ind (λ (x : Slot). x .ticket .0 ≡ slotAt (w .endpoint) i .ticket .0) (isLast r) (λ _. refl) (λ _. refl)
+      same-ticket : afterPacket (w .endpoint .unit) (slotAt (w .endpoint) i) r .ticket .0 ≡ slotAt (w .endpoint) i .ticket .0
+      same-ticket = if-ind (λ (x : Slot). x .ticket .0 ≡ slotAt (w .endpoint) i .ticket .0) (isLast (w .endpoint .unit) r) (λ _. refl) (λ _. refl)
 
   kept-in : {s : Stepped} → PollCase w buffer s → (j : ℕ) → j ≤ 1 → KeptAt s j
   kept-in (still n _) j js = same-kept j js _ (quiet-same (phaseAt w j) (phaseAt w j) n (trace j) refl)
@@ -193,17 +193,17 @@ module _ (w : World) (buffer : List ℕ) (trace : ℕ → Trace) (s₀ : Sound w
   kept-in (sends i r e _) j js = at (chosen-at (w .endpoint) (s₀ .state) e)
     where
       at : Chosen (w .endpoint) i r
-          → KeptAt (stepped (handed-out (commandPacket w i r)) (withEndpoint w (packetSent (withSlot (w .endpoint) i (afterPacket (slotAt (w .endpoint) i) r)) (otherSlot i)))) j
+          → KeptAt (stepped (handed-out (commandPacket w i r)) (withEndpoint w (packetSent (withSlot (w .endpoint) i (afterPacket (w .endpoint .unit) (slotAt (w .endpoint) i) r)) (otherSlot i)))) j
       at c = by (which i j (c .slot-is) js)
         where
           v : Valid (w .endpoint)
           v = s₀ .state
 
-          by : Which i j → PollKept (slotAt (w .endpoint) j) (slotAt (withSlot (w .endpoint) i (afterPacket (slotAt (w .endpoint) i) r)) j) (storeAt w j) (trace j)
-              (transmitted (phaseAt w j) (slotAt (withSlot (w .endpoint) i (afterPacket (slotAt (w .endpoint) i) r)) j .phase) (handed-out (commandPacket w i r)) (trace j))
-          by (this q) = rw (q, slot-this i (c .slot-is) v (afterPacket (slotAt (w .endpoint) i) r)) (sent-kept i r (c .slot-is) (c .sends))
+          by : Which i j → PollKept (w .endpoint .unit) (slotAt (w .endpoint) j) (slotAt (withSlot (w .endpoint) i (afterPacket (w .endpoint .unit) (slotAt (w .endpoint) i) r)) j) (storeAt w j) (trace j)
+              (transmitted (phaseAt w j) (slotAt (withSlot (w .endpoint) i (afterPacket (w .endpoint .unit) (slotAt (w .endpoint) i) r)) j .phase) (handed-out (commandPacket w i r)) (trace j))
+          by (this q) = rw (q, slot-this i (c .slot-is) v (afterPacket (w .endpoint .unit) (slotAt (w .endpoint) i) r)) (sent-kept i r (c .slot-is) (c .sends))
           by (that q) =
-              rw (q, slot-that i (c .slot-is) v (afterPacket (slotAt (w .endpoint) i) r))
+              rw (q, slot-that i (c .slot-is) v (afterPacket (w .endpoint .unit) (slotAt (w .endpoint) i) r))
               (same-kept (otherSlot i) (other-most i) _ (unmoved (phaseAt w (otherSlot i)) (phaseAt w (otherSlot i)) (commandPacket w i r) (trace (otherSlot i)) refl))
 
   pub poll-kept : (j : ℕ) → j ≤ 1 → KeptAt (step (poll buffer) w) j

@@ -24,7 +24,7 @@ use Rattle.machine.proofs.Invariant.{each}
 
 pub is-control : (w : World) (p : List ℕ) → Controls w p → isControl (w .endpoint .eid) p ≡ true
 is-control w p c =
-    let r = read-facts (w .endpoint .eid) p (c .read-so) in
+    let r = read-facts (w .endpoint .eid) (w .endpoint .unit) p (c .read-so) in
     let n : length p ≡ 16 = omega (arith, rw (length-drop 4 p) at (c .twelve)) in
     rw (eq-eqb (length p) 16 n, r .version, r .ours, c .som, c .eom, r .direction, c .typed, c .request, c .kind, c .right) refl
 

@@ -22,7 +22,7 @@ use Rattle.nvme_mi.specs.declared.MessageHeader.{MessageHeader}
 use Rattle.nvme_mi.specs.declared.Fault.{Fault}
 use Rattle.nvme_mi.specs.declared.Fault.the-variants.{NoFault, Parameter, Failure}
 use Rattle.machine.specs.State.{World, Outcome, outcome, outgoing, slotAt, storeAt, withSlot, withStore, withEndpoint, onSlot, withPhase, withBusy, idled, heldIn, isIdle, settled, nextTicket}
-use Rattle.machine.specs.Wire.{unit, store-size, response-place, opcodeOf, noParameter, clearsFlags}
+use Rattle.machine.specs.Wire.{store-size, response-place, opcodeOf, noParameter, clearsFlags}
 use Rattle.machine.specs.Control.{pausedSlot, pause, resumedSlot, released as releasedPhase, resume, abort, clearFlags, replayed, replay, primitive, controlledBy, controlled}
 use Rattle.machine.specs.Process.{request, processing, responseTo, responded, respondedAtOnce, pausedIf, entered as enteredWorld}
 use Rattle.machine.specs.Receive.{refused, refusedBusy, dropped, gathers, endedSlot, endAssembly, received}
@@ -32,7 +32,7 @@ use Rattle.machine.specs.Calls.{Call, receive, number, Stepped, byOutcom
 use Rattle.machine.specs.History.{Trace, phaseAt, hasSom, sourceOf, messageTagOf, isTransmit, isFor, requestWith, responseFor, fixedAtEntry, gaining, entering, commanded, transmitted, traceAfter, isPrimitive, isAbort, cuts}
 use Rattle.machine.specs.Types.{Request, Response, Held, NoResponse, Last, Phase, Idle, Receive, Process, Answered, Transmit, Slot, Endpoint, Acted}
 use Rattle.machine.proofs.Slots.{isEarly, held-idle, held-not, other-most}
-use Rattle.machine.proofs.Receiving.{Origin, opens, goes-on, Joining, filled, grown, whole, Controls, Ground, in-table, of-control, of-no-slot, Busy, Gathering, Break, in-sequence, in-size, in-total, Walk, csi-most, receives-gathers, walked}
+use Rattle.machine.proofs.Receiving.{Units, Origin, opens, goes-on, Joining, filled, grown, whole, Controls, Ground, in-table, of-control, of-no-slot, Busy, Gathering, Break, in-sequence, in-size, in-total, Walk, csi-most, receives-gathers, walked}
 use Rattle.machine.proofs.Primitives.{is-primitive}
 use Rattle.machine.proofs.Keeps.{sound-endpoint, store-at, kept-quiet, pause-valid, end-valid}
 use Rattle.machine.proofs.Places.{Frame, Which, this, that, which, other-differs, slot-this, slot-that, slot-both, store-this, store-that, take-joined}
@@ -42,10 +42,10 @@ use Rattle.machine.proofs.Fits.{Fit, entered, stayed, newly, Carried, q
 pub record Carries (c : Call) (w : World) (trace : ℕ → Trace) (s : Stepped) : Type 0 where
   pub frame : Frame (w .endpoint) (s .world .endpoint)
   pub carried : (j : ℕ) → j ≤ 1
-      → Carried (cuts j c w ≡ true) (slotAt (w .endpoint) j) (slotAt (s .world .endpoint) j) (storeAt (s .world) j) (trace j) (traceAfter j c w s (trace j))
+      → Carried (w .endpoint .unit) (cuts j c w ≡ true) (slotAt (w .endpoint) j) (slotAt (s .world .endpoint) j) (storeAt (s .world) j) (trace j) (traceAfter j c w s (trace j))
 
 module _ (w₀ : World) (packet : List ℕ) (trace : ℕ → Trace) (s₀ : Sound w₀)
-    (fits : (j : ℕ) → j ≤ 1 → Fit (slotAt (w₀ .endpoint) j) (storeAt w₀ j) (trace j)) where
+    (fits : (j : ℕ) → j ≤ 1 → Fit (w₀ .endpoint .unit) (slotAt (w₀ .endpoint) j) (storeAt w₀ j) (trace j)) where
   abbrev eid₀ : ℕ
   eid₀ = w₀ .endpoint .eid
 
@@ -73,10 +73,10 @@ module _ (w₀ : World) (packet : List ℕ) (trace : ℕ → Trace) (s₀ : Soun
 
   -- a slot that only went through the way's beginning
   mid-carried : (w : World) → Mid w → (n j : ℕ) → j ≤ 1 → (t : Slot) → t .phase ≡ phaseAt w j → t .ticket ≡ slotAt (w .endpoint) j .ticket
-      → Carried (Cut j) (slotAt (w₀ .endpoint) j) t (storeAt w₀ j) (trace j) (quietly j n t)
+      → Carried (w₀ .endpoint .unit) (Cut j) (slotAt (w₀ .endpoint) j) t (storeAt w₀ j) (trace j) (quietly j n t)
   mid-carried w m n j js t e k = go (m .phases j js)
     where
-      go : MidPhase (phaseAt w₀ j) (phaseAt w j) → Carried (Cut j) (slotAt (w₀ .endpoint) j) t (storeAt w₀ j) (trace j) (quietly j n t)
+      go : MidPhase (phaseAt w₀ j) (phaseAt w j) → Carried (w₀ .endpoint .unit) (Cut j) (slotAt (w₀ .endpoint) j) t (storeAt w₀ j) (trace j) (quietly j n t)
       go (kept q) = carried-same n (e ∙ q) (k ∙ m .tickets j js) (fits j js)
       go (ended _ early q) = carried-ended (storeAt w₀ j) n early (e ∙ q) (k ∙ m .tickets j js) (fits j js .ticket-is)
 
@@ -117,7 +117,7 @@ module _ (w₀ : World) (packet : List ℕ) (trace : ℕ → Trace) (s₀ : Soun
     pub that-ticket : slotAt (o .world .endpoint) (otherSlot i) .ticket ≡ slotAt (w .endpoint) (otherSlot i) .ticket
     pub that-store : storeAt (o .world) (otherSlot i) ≡ storeAt w (otherSlot i)
     pub that-trace : commanded (otherSlot i) (receive packet) w₀ (number (o .answer)) (trace (otherSlot i)) ≡ trace (otherSlot i)
-    pub this-slot : Carried (Cut i) (slotAt (w₀ .endpoint) i) (slotAt (o .world .endpoint) i) (storeAt (o .world) i) (trace i)
+    pub this-slot : Carried (w₀ .endpoint .unit) (Cut i) (slotAt (w₀ .endpoint) i) (slotAt (o .world .endpoint) i) (storeAt (o .world) i) (trace i)
         (TraceOf i (o .answer) (slotAt (o .world .endpoint) i))
 
   one-slot : (w : World) (i : ℕ) (o : Outcome) → i ≤ 1 → Mid w → OneSlot w i o → Ends o
@@ -127,13 +127,13 @@ module _ (w₀ : World) (packet : List ℕ) (trace : ℕ → Trace) (s₀ : Soun
         carried = λ j js. at j js (which i j is js);
       }
     where
-      that-one : otherSlot i ≤ 1 → Carried (Cut (otherSlot i)) (slotAt (w₀ .endpoint) (otherSlot i)) (slotAt (o .world .endpoint) (otherSlot i))
+      that-one : otherSlot i ≤ 1 → Carried (w₀ .endpoint .unit) (Cut (otherSlot i)) (slotAt (w₀ .endpoint) (otherSlot i)) (slotAt (o .world .endpoint) (otherSlot i))
           (storeAt (o .world) (otherSlot i)) (trace (otherSlot i)) (TraceOf (otherSlot i) (o .answer) (slotAt (o .world .endpoint) (otherSlot i)))
       that-one js =
           rw (k .that-trace, k .that-store, m .stores (otherSlot i))
           (mid-carried w m (o .answer) (otherSlot i) js (slotAt (o .world .endpoint) (otherSlot i)) (k .that-phase) (k .that-ticket))
 
-      at : (j : ℕ) → j ≤ 1 → Which i j → Carried (Cut j) (slotAt (w₀ .endpoint) j) (slotAt (o .world .endpoint) j) (storeAt (o .world) j) (trace j) (TraceOf j (o .answer) (slotAt (o .world .endpoint) j))
+      at : (j : ℕ) → j ≤ 1 → Which i j → Carried (w₀ .endpoint .unit) (Cut j) (slotAt (w₀ .endpoint) j) (slotAt (o .world .endpoint) j) (storeAt (o .world) j) (trace j) (TraceOf j (o .answer) (slotAt (o .world .endpoint) j))
       at j js (this e) = rw e (k .this-slot)
       at j js (that e) = rw e (that-one (rw e at js))
 
@@ -248,7 +248,7 @@ module _ (w₀ : World) (packet : List ℕ) (trace : ℕ → Trace) (s₀ : Soun
           rw (sym (phase-before w m i (j .slot-is) som) ∙ ph) at (fits i (j .slot-is) .phase-fits) in
           rw som (take-joined (storeAt w i) (a .length) (payloadOf packet) (room h) ∙ rw (m .stores i, before) refl)
 
-  gain : (w : World) (i at : ℕ) → Joining w₀ packet w i at → unit ≤ at + length (payloadOf packet) → Mid w
+  gain : (w : World) (i at : ℕ) → Joining w₀ packet w i at → Units (w .endpoint .unit) (at + length (payloadOf packet)) → Mid w
       → Ends (outcome 0 (onSlot (filled w₀ packet w i at) i (withPhase (slotAt (w .endpoint) i) (Receive (grown w₀ packet at)))))
   gain w i at j lo m =
       let v = m .sound .state in
@@ -439,7 +439,7 @@ module _ (w₀ : World) (packet : List ℕ) (trace : ℕ → Trace) (s₀ : Soun
   pub record Acts (w : World) (a : Acted) : Type 0 where
     pub frame : Frame (w .endpoint) (a .endpoint)
     pub each : (j : ℕ) → j ≤ 1
-        → Carried (Cut j) (slotAt (w₀ .endpoint) j) (slotAt (a .endpoint) j) (storeAt w₀ j) (trace j) (quietly j 2 (slotAt (a .endpoint) j))
+        → Carried (w₀ .endpoint .unit) (Cut j) (slotAt (w₀ .endpoint) j) (slotAt (a .endpoint) j) (storeAt w₀ j) (trace j) (quietly j 2 (slotAt (a .endpoint) j))
 
   alike-acts : (w : World) → Mid w → (a : Acted) → Alike (w .endpoint) (a .endpoint) → Acts w a
   alike-acts w m a k =
@@ -450,13 +450,13 @@ module _ (w₀ : World) (packet : List ℕ) (trace : ℕ → Trace) (s₀ : Soun
 
   -- Resume
   resumed-one : (j : ℕ) → j ≤ 1 → (s t : Slot) → t .phase ≡ releasedPhase (s .phase) → t .ticket ≡ s .ticket → s .phase ≡ phaseAt w₀ j → s .ticket ≡ slotAt (w₀ .endpoint) j .ticket
-      → Carried (Cut j) (slotAt (w₀ .endpoint) j) t (storeAt w₀ j) (trace j) (quietly j 2 t)
+      → Carried (w₀ .endpoint .unit) (Cut j) (slotAt (w₀ .endpoint) j) t (storeAt w₀ j) (trace j) (quietly j 2 t)
   resumed-one j js s t e k p q = go (s .phase) e p
     where
-      plain : {x : Phase} → t .phase ≡ x → x ≡ phaseAt w₀ j → Carried (Cut j) (slotAt (w₀ .endpoint) j) t (storeAt w₀ j) (trace j) (quietly j 2 t)
+      plain : {x : Phase} → t .phase ≡ x → x ≡ phaseAt w₀ j → Carried (w₀ .endpoint .unit) (Cut j) (slotAt (w₀ .endpoint) j) t (storeAt w₀ j) (trace j) (quietly j 2 t)
       plain a b = carried-same 2 (a ∙ b) (k ∙ q) (fits j js)
 
-      go : (x : Phase) → t .phase ≡ releasedPhase x → x ≡ phaseAt w₀ j → Carried (Cut j) (slotAt (w₀ .endpoint) j) t (storeAt w₀ j) (trace j) (quietly j 2 t)
+      go : (x : Phase) → t .phase ≡ releasedPhase x → x ≡ phaseAt w₀ j → Carried (w₀ .endpoint .unit) (Cut j) (slotAt (w₀ .endpoint) j) t (storeAt w₀ j) (trace j) (quietly j 2 t)
       go (Idle held) a b = plain a b
       go (Receive x) a b = plain a b
       go (Process x) a b = plain a b
@@ -468,7 +468,7 @@ module _ (w₀ : World) (packet : List ℕ) (trace : ℕ → Trace) (s₀ : Soun
   resume-acts w m cpsr = record { frame = refl; each = λ j js. rw (slot-both resumedSlot (w .endpoint) j js) (at j js (m .phases j js)) }
     where
       at : (j : ℕ) → j ≤ 1 → MidPhase (phaseAt w₀ j) (phaseAt w j)
-          → Carried (Cut j) (slotAt (w₀ .endpoint) j) (resumedSlot (slotAt (w .endpoint) j)) (storeAt w₀ j) (trace j) (quietly j 2 (resumedSlot (slotAt (w .endpoint) j)))
+          → Carried (w₀ .endpoint .unit) (Cut j) (slotAt (w₀ .endpoint) j) (resumedSlot (slotAt (w .endpoint) j)) (storeAt w₀ j) (trace j) (quietly j 2 (resumedSlot (slotAt (w .endpoint) j)))
       at j js (kept q) = resumed-one j js (slotAt (w .endpoint) j) (resumedSlot (slotAt (w .endpoint) j)) refl refl q (m .tickets j js)
       at j js (ended _ early q) = carried-ended (storeAt w₀ j) 2 early (ap releasedPhase q) (m .tickets j js) (fits j js .ticket-is)
 
@@ -483,10 +483,10 @@ module _ (w₀ : World) (packet : List ℕ) (trace : ℕ → Trace) (s₀ : Soun
       e : Endpoint
       e = withSlot (w .endpoint) i (idled (slotAt (w .endpoint) i))
 
-      this-one : Carried (Cut i) (slotAt (w₀ .endpoint) i) (idled (slotAt (w .endpoint) i)) (storeAt w₀ i) (trace i) (quietly i 2 (idled (slotAt (w .endpoint) i)))
+      this-one : Carried (w₀ .endpoint .unit) (Cut i) (slotAt (w₀ .endpoint) i) (idled (slotAt (w .endpoint) i)) (storeAt w₀ i) (trace i) (quietly i 2 (idled (slotAt (w .endpoint) i)))
       this-one = carried-cut (storeAt w₀ i) 2 c refl (m .tickets i is) (fits i is .ticket-is)
 
-      at : (j : ℕ) → j ≤ 1 → Which i j → Carried (Cut j) (slotAt (w₀ .endpoint) j) (slotAt (withSlot (w .endpoint) i (idled (slotAt (w .endpoint) i))) j) (storeAt w₀ j) (trace j) (quietly j 2 (slotAt (withSlot (w .endpoint) i (idled (slotAt (w .endpoint) i))) j))
+      at : (j : ℕ) → j ≤ 1 → Which i j → Carried (w₀ .endpoint .unit) (Cut j) (slotAt (w₀ .endpoint) j) (slotAt (withSlot (w .endpoint) i (idled (slotAt (w .endpoint) i))) j) (storeAt w₀ j) (trace j) (quietly j 2 (slotAt (withSlot (w .endpoint) i (idled (slotAt (w .endpoint) i))) j))
       at j js (this q) = rw (q, slot-this i is v (idled (slotAt (w .endpoint) i))) this-one
       at j js (that q) = rw (q, slot-that i is v (idled (slotAt (w .endpoint) i))) (mid-carried w m 2 (otherSlot i) (other-most i) (slotAt (w .endpoint) (otherSlot i)) refl refl)
 
@@ -513,11 +513,11 @@ module _ (w₀ : World) (packet : List ℕ) (trace : ℕ → Trace) (s₀ : Soun
       s : Slot
       s = withPhase (slotAt (w .endpoint) i) (Transmit (outgoing r 0))
 
-      this-one : MidPhase (phaseAt w₀ i) (phaseAt w i) → Carried (Cut i) (slotAt (w₀ .endpoint) i) s (storeAt w₀ i) (trace i) (quietly i 2 s)
+      this-one : MidPhase (phaseAt w₀ i) (phaseAt w i) → Carried (w₀ .endpoint .unit) (Cut i) (slotAt (w₀ .endpoint) i) s (storeAt w₀ i) (trace i) (quietly i 2 s)
       this-one (kept q) = carried-replayed 2 r (sym q ∙ e) refl (m .tickets i is) (fits i is)
       this-one (ended _ early q) = held-not (sym q ∙ e)
 
-      at : (j : ℕ) → j ≤ 1 → Which i j → Carried (Cut j) (slotAt (w₀ .endpoint) j) (slotAt (withSlot (w .endpoint) i s) j) (storeAt w₀ j) (trace j) (quietly j 2 (slotAt (withSlot (w .endpoint) i s) j))
+      at : (j : ℕ) → j ≤ 1 → Which i j → Carried (w₀ .endpoint .unit) (Cut j) (slotAt (w₀ .endpoint) j) (slotAt (withSlot (w .endpoint) i s) j) (storeAt w₀ j) (trace j) (quietly j 2 (slotAt (withSlot (w .endpoint) i s) j))
       at j js (this q) = rw (q, slot-this i is v s) (this-one (m .phases i is))
       at j js (that q) = rw (q, slot-that i is v s) (mid-carried w m 2 (otherSlot i) (other-most i) (slotAt (w .endpoint) (otherSlot i)) refl refl)
 

@@ -13,7 +13,7 @@ use Rattle.lent.specs.Bytes.{byteAt}
 use Rattle.lent.proofs.Choice.{if-ind, false-true, and-both, differ}
 use Rattle.mctp.specs.Header.{fields}
 use Rattle.machine.specs.State.{World, Outcome, slotAt, withEndpoint, isIdle}
-use Rattle.machine.specs.Wire.{packet-room, wrongStores}
+use Rattle.machine.specs.Wire.{packetRoom, wrongStores}
 use Rattle.machine.specs.Receive.{refused, refusedBusy, dropped, endAssembly, flagOf, received}
 use Rattle.machine.specs.Finish.{isSlot, takenRow, takenFrom, taken, isBody, isPresent, completedRow, completedIn, completed, isReceive, timedOut}
 use Rattle.machine.specs.Poll.{Polled, ready, replyFirst, polledBy, polled}
@@ -142,7 +142,7 @@ wrong-stores-unchanged (poll buffer) w l e = rw (wrong-so w e) (refl, refl)
 wrong-stores-unchanged (timeout i) w l e = false-true l
 wrong-stores-unchanged reset w l e = false-true l
 
--- ---- 30 to 38
+-- ---- 30 to 39
 
 same-number : {m n : ℕ} → number m ≡ number n → m ≡ n
 same-number e = cc
@@ -202,7 +202,7 @@ timeout-unchanged e i =
 poll-unchanged : (w : World) (buffer : List ℕ) (n : ℕ) → pollEvent (polled w buffer .buffer) (polled w buffer .answer) ≡ number n → polled w buffer .endpoint ≡ w .endpoint
 unfolding polled
 poll-unchanged w buffer n =
-    if-ind Unchanged (wrongStores w) (λ _ _. refl) (λ _. if-ind Unchanged (ltb (length buffer) packet-room) (λ _ _. refl) (λ _. by (ready (w .endpoint))))
+    if-ind Unchanged (wrongStores w) (λ _ _. refl) (λ _. if-ind Unchanged (ltb (length buffer) (packetRoom (w .endpoint))) (λ _ _. refl) (λ _. by (ready (w .endpoint))))
   where
     Unchanged : Polled → Type 0
     Unchanged p = pollEvent (p .buffer) (p .answer) ≡ number n → p .endpoint ≡ w .endpoint
@@ -338,7 +338,7 @@ timeout-named e i =
 poll-named : (w : World) (buffer : List ℕ) (n : ℕ) → pollEvent (polled w buffer .buffer) (polled w buffer .answer) ≡ number n → In (0 ∷ 36 ∷ 40 ∷ []) n
 unfolding polled
 poll-named w buffer n =
-    if-ind Says (wrongStores w) (λ _ q. listed 40 q refl) (λ _. if-ind Says (ltb (length buffer) packet-room) (λ _ q. listed 36 q refl) (λ _. by (ready (w .endpoint))))
+    if-ind Says (wrongStores w) (λ _ q. listed 40 q refl) (λ _. if-ind Says (ltb (length buffer) (packetRoom (w .endpoint))) (λ _ q. listed 36 q refl) (λ _. by (ready (w .endpoint))))
   where
     Says : Polled → Type 0
     Says p = pollEvent (p .buffer) (p .answer) ≡ number n → In (0 ∷ 36 ∷ 40 ∷ []) n
@@ -360,25 +360,25 @@ named (poll buffer) w n v e = poll-named w buffer n e
 named (timeout i) w n v e = rw (sym (same-number e)) (timeout-named (w .endpoint) i)
 named reset w n v e = rw (sym (same-number e)) refl
 
--- ---- 30 to 38
+-- ---- 30 to 39
 
 -- receiving and reset answer none of them
-not-received : (n : ℕ) → In receiving n → 30 ≤ n → n ≤ 38 → ⊥
+not-received : (n : ℕ) → In receiving n → 30 ≤ n → n ≤ 39 → ⊥
 not-received n h lo hi = false-true (sym (absent receiving refl) ∙ h)
   where
     outside : List ℕ → Bool
     outside [] = true
-    outside (k ∷ ks) = (ltb k 30 || ltb 38 k) && outside ks
+    outside (k ∷ ks) = (ltb k 30 || ltb 39 k) && outside ks
 
     absent : (ks : List ℕ) → outside ks ≡ true → isOneOf n ks ≡ false
     absent [] q = refl
     absent (k ∷ ks) q =
-        let a = and-both (ltb k 30 || ltb 38 k) (outside ks) q in
-        rw (ne-eqb n k (λ e. away k e (ltb k 30) (ltb 38 k) refl refl (a .0))) (absent ks (a .1))
+        let a = and-both (ltb k 30 || ltb 39 k) (outside ks) q in
+        rw (ne-eqb n k (λ e. away k e (ltb k 30) (ltb 39 k) refl refl (a .0))) (absent ks (a .1))
       where
-        away : (k : ℕ) → n ≡ k → (x y : Bool) → ltb k 30 ≡ x → ltb 38 k ≡ y → (x || y) ≡ true → ⊥
+        away : (k : ℕ) → n ≡ k → (x y : Bool) → ltb k 30 ≡ x → ltb 39 k ≡ y → (x || y) ≡ true → ⊥
         away k e true y p r z = omega (arith, ltb-true k 30 p)
-        away k e false true p r z = omega (arith, ltb-true 38 k r)
+        away k e false true p r z = omega (arith, ltb-true 39 k r)
         away k e false false p r z = false-true z
 
 pub refused-call : RefusedCall

@@ -1,6 +1,6 @@
 -- What an Idle slot holds: what it is, how it comes and goes, and what a Replay makes of it.
 -- Assumes nothing.
-use Prim.Native.Nat.{ℕ, _+_, _-_, _/_, _%_, _≤_}
+use Prim.Native.Nat.{ℕ, _+_, _-_, _%_, _≤_}
 use mathlib.Core.Path.{_≡_, refl, sym, ap, _∙_}
 use mathlib.Core.Bool.{Bool, true, false, not, _&&_, _||_}
 use mathlib.Core.List.{List, []}
@@ -24,7 +24,8 @@ use Rattle.machine.specs.Finish.{isReceive}
 use Rattle.machine.specs.Poll.{otherSlot, commandPacket, isLast, afterPacket}
 use Rattle.machine.specs.Valid.{PhaseFacts, Valid, Sound}
 use Rattle.machine.specs.Calls.{Call, receive, take!, read, complete, poll, timeout, reset, number, handed-out, Stepped, stepped, step}
-use Rattle.machine.specs.History.{Trace, History, sourceOf, messageTagOf, kindOf, receivesFrom, isFor, phaseAt, bytesFrom4, isTransmit, sending, moved, isControl, isPrimitive, isAbort, next, run, start}
+use Rattle.machine.specs.History.{Trace, History, sourceOf, messageTagOf, kindOf, receivesFrom, isFor, phaseAt, bytesFrom4, isTransmit, sending, moved, isControl, isPrimitive, isAbort, next, run, start, unitOf, overUnit}
+use Rattle.machine.specs.Demands.{mostPolls}
 use Rattle.machine.specs.Refusals.{isCommand}
 use Rattle.machine.specs.Replies.{csiOf, noCpsp, wrongReplay, isError, slotFound, holdsOne, cpsrOf, unpaused, sentAgain, actedOn, replyOf, Replied}
 use Rattle.machine.specs.Replays.{heldAt, responseOf, isStored, isReplay, heldAfter, HeldIs, HeldMoves, SentAgain, ReplaySends, ReplayArrives}
@@ -38,7 +39,7 @@ use Rattle.machine.proofs.Received.{Mid, for-this, for-that, command, e
 use Rattle.machine.proofs.Primitives.{acting}
 use Rattle.machine.proofs.Keeps.{Chosen, chosen-at}
 use Rattle.machine.proofs.Polling.{PollCase, still, replies, sends, poll-case, moved-same}
-use Rattle.machine.proofs.Histories.{Good, good-next, good-every}
+use Rattle.machine.proofs.Histories.{Good, good-next, good-every, next-unit}
 use Rattle.machine.proofs.Delivery.{lastBy, is-last, not-last, mute, sending-phase}
 use Rattle.machine.proofs.Arrives.{goes-out, receive-uncounted}
 use Rattle.machine.proofs.Replies.{primitive-done, control-replied, acts, acts-so, cut-idle}
@@ -59,7 +60,7 @@ settled-none false r = refl
 -- ---- receiving
 
 module _ (w₀ : World) (p : List ℕ) (trace : ℕ → Trace) (s₀ : Sound w₀)
-    (fits : (j : ℕ) → j ≤ 1 → Fit (slotAt (w₀ .endpoint) j) (storeAt w₀ j) (trace j)) where
+    (fits : (j : ℕ) → j ≤ 1 → Fit (w₀ .endpoint .unit) (slotAt (w₀ .endpoint) j) (storeAt w₀ j) (trace j)) where
   -- on the way each slot holds what it held
   record On (w : World) : Type 0 where
     mid : Mid w₀ p trace s₀ fits w
@@ -414,17 +415,17 @@ poll-holds i is buffer h g = by (poll-case (h .world) buffer (g .sound))
 
     -- slot i's own packet
     own-holds : (r : Outgoing) → phaseAt (h .world) i ≡ Transmit r
-        → Holds (stepped (handed-out (commandPacket (h .world) i r)) (withEndpoint (h .world) (packetSent (withSlot (h .world .endpoint) i (afterPacket (slotAt (h .world .endpoint) i) r)) (otherSlot i))))
-    own-holds r t = go (isLast r) refl
+        → Holds (stepped (handed-out (commandPacket (h .world) i r)) (withEndpoint (h .world) (packetSent (withSlot (h .world .endpoint) i (afterPacket (h .world .endpoint .unit) (slotAt (h .world .endpoint) i) r)) (otherSlot i))))
+    own-holds r t = go (isLast (h .world .endpoint .unit) r) refl
       where
-        after : heldIn (slotAt (withSlot (h .world .endpoint) i (afterPacket (slotAt (h .world .endpoint) i) r)) i .phase) ≡ heldIn (afterPacket (slotAt (h .world .endpoint) i) r .phase)
-        after = ap (λ (s : Slot). heldIn (s .phase)) (slot-this i is (g .sound .state) (afterPacket (slotAt (h .world .endpoint) i) r))
+        after : heldIn (slotAt (withSlot (h .world .endpoint) i (afterPacket (h .world .endpoint .unit) (slotAt (h .world .endpoint) i) r)) i .phase) ≡ heldIn (afterPacket (h .world .endpoint .unit) (slotAt (h .world .endpoint) i) r .phase)
+        after = ap (λ (s : Slot). heldIn (s .phase)) (slot-this i is (g .sound .state) (afterPacket (h .world .endpoint .unit) (slotAt (h .world .endpoint) i) r))
 
-        going : Going r (storeAt (h .world) i) (h .trace i)
+        going : Going (h .world .endpoint .unit) r (storeAt (h .world) i) (h .trace i)
         going = rw t at (g .fits i is .phase-fits)
 
-        go : (b : Bool) → isLast r ≡ b
-            → Holds (stepped (handed-out (commandPacket (h .world) i r)) (withEndpoint (h .world) (packetSent (withSlot (h .world .endpoint) i (afterPacket (slotAt (h .world .endpoint) i) r)) (otherSlot i))))
+        go : (b : Bool) → isLast (h .world .endpoint .unit) r ≡ b
+            → Holds (stepped (handed-out (commandPacket (h .world) i r)) (withEndpoint (h .world) (packetSent (withSlot (h .world .endpoint) i (afterPacket (h .world .endpoint .unit) (slotAt (h .world .endpoint) i) r)) (otherSlot i))))
         go true e = rw (is-last i is buffer h g r t e) (after ∙ rw e (ap Last (full-is (r .response) (storeAt (h .world) i) (h .trace i) (going .full))))
         go false e = rw (not-last i is buffer h g r t e) (after ∙ rw (e, t) refl)
 
@@ -437,11 +438,11 @@ poll-holds i is buffer h g = by (poll-case (h .world) buffer (g .sound))
         picked = chosen-at (h .world .endpoint) (g .sound .state) c
 
         at : Which k i
-            → Holds (stepped (handed-out (commandPacket (h .world) k q)) (withEndpoint (h .world) (packetSent (withSlot (h .world .endpoint) k (afterPacket (slotAt (h .world .endpoint) k) q)) (otherSlot k))))
+            → Holds (stepped (handed-out (commandPacket (h .world) k q)) (withEndpoint (h .world) (packetSent (withSlot (h .world .endpoint) k (afterPacket (h .world .endpoint .unit) (slotAt (h .world .endpoint) k) q)) (otherSlot k))))
         at (this e) = rw (sym e) (own-holds q (rw (sym e) at (picked .sends)))
         at (that e) =
-            let mine : slotAt (withSlot (h .world .endpoint) k (afterPacket (slotAt (h .world .endpoint) k) q)) i .phase ≡ phaseAt (h .world) i =
-            rw e (ap (λ (s : Slot). s .phase) (slot-that k (picked .slot-is) (g .sound .state) (afterPacket (slotAt (h .world .endpoint) k) q))) in
+            let mine : slotAt (withSlot (h .world .endpoint) k (afterPacket (h .world .endpoint .unit) (slotAt (h .world .endpoint) k) q)) i .phase ≡ phaseAt (h .world) i =
+            rw e (ap (λ (s : Slot). s .phase) (slot-that k (picked .slot-is) (g .sound .state) (afterPacket (h .world .endpoint .unit) (slotAt (h .world .endpoint) k) q))) in
             unmoved _ mine _
 
 moves : (h : History) → Good h → (c : Call) (i : ℕ) → i ≤ 1 → heldAt (step c (h .world) .world) i ≡ heldAfter i c h
@@ -457,17 +458,17 @@ moves h g (timeout j) i is = touched-holds (timeout-touches (h .world .endpoint)
 moves h g reset i is = ap heldIn (cut-idle reset (h .world) (g .sound) i is refl)
 
 pub held-moves : HeldMoves
-held-moves eid store0 store1 a b xs c i is = moves (run xs (start eid store0 store1)) (good-every eid store0 store1 a b xs) c i is
+held-moves eid unit store0 store1 a b xs c i is = moves (run xs (start eid unit store0 store1)) (good-every eid unit store0 store1 a b xs) c i is
 
 -- ---- what is held
 
 pub held-is : HeldIs
-held-is eid store0 store1 a b xs i is r e =
-    let h = run xs (start eid store0 store1) in
-    let g = good-every eid store0 store1 a b xs in
+held-is eid unit store0 store1 a b xs i is r e =
+    let h = run xs (start eid unit store0 store1) in
+    let g = good-every eid unit store0 store1 a b xs in
     let idle = held-idle (phaseAt (h .world) i) r e in
     let full : Full r (storeAt (h .world) i) (h .trace i) = rw idle at (g .fits i is .phase-fits) in
-    let facts : PhaseFacts (slotAt (h .world .endpoint) i .paused) (Idle (Last r)) = rw idle at (facts-at i is (g .sound .state)) in
+    let facts : PhaseFacts (unitOf (h .world)) (slotAt (h .world .endpoint) i .paused) (Idle (Last r)) = rw idle at (facts-at i is (g .sound .state)) in
     record { response-is = full-is r (storeAt (h .world) i) (h .trace i) full; least = facts .1 .least; most = facts .1 .most; lies = full .held }
 
 -- ---- a Replay of a slot that holds a response
@@ -515,7 +516,10 @@ module _ (h : History) (g : Good h) (p : List ℕ) (i : ℕ) (is : i ≤ 1) (act
         in-transmit = ap (λ (s : Slot). isTransmit (s .phase)) slot-after;
         none-went = ap (λ (l : Trace). l .packets) trace-after;
         none-paid = ap (λ (l : Trace). l .payloads) trace-after;
-        all-left = ap (λ (l : Trace). (length (l .response) + 63) / 64 - l .packets) trace-after ∙ sub-zero ((length (h .trace i .response) + 63) / 64);
+        all-left =
+            ap (λ (u : ℕ). overUnit u (length (next (receive p) h .trace i .response)) - next (receive p) h .trace i .packets) (next-unit (receive p) h g)
+            ∙ ap (λ (l : Trace). overUnit (unitOf (h .world)) (length (l .response)) - l .packets) trace-after
+            ∙ sub-zero (overUnit (unitOf (h .world)) (length (h .trace i .response)));
         same-response = ap (λ (l : Trace). l .response) trace-after;
         same-requester = ap (λ (l : Trace). l .requester) trace-after;
         same-tag = ap (λ (l : Trace). l .tag) trace-after;
@@ -524,13 +528,13 @@ module _ (h : History) (g : Good h) (p : List ℕ) (i : ℕ) (is : i ≤ 1) (act
       }
 
 pub replay-sends : ReplaySends
-replay-sends eid store0 store1 a b xs p i is acted r e = sent-again (run xs (start eid store0 store1)) (good-every eid store0 store1 a b xs) p i is acted r e
+replay-sends eid unit store0 store1 a b xs p i is acted r e = sent-again (run xs (start eid unit store0 store1)) (good-every eid unit store0 store1 a b xs) p i is acted r e
 
 pub replay-arrives : ReplayArrives
-replay-arrives eid store0 store1 a b xs p i is acted r e ys =
-    let h = run xs (start eid store0 store1) in
-    let g = good-every eid store0 store1 a b xs in
+replay-arrives eid unit store0 store1 a b xs p i is acted r e ys =
+    let h = run xs (start eid unit store0 store1) in
+    let g = good-every eid unit store0 store1 a b xs in
     let s = sent-again h g p i is acted r e in
     let q = sending-phase (phaseAt (next (receive p) h .world) i) (s .in-transmit) in
-    goes-out i (h .counted + 264) (h .trace i .response) is ys (next (receive p) h) (good-next (receive p) h g) (goes (q .0) (q .1)) (s .same-response)
-    (omega (arith, receive-uncounted h p))
+    goes-out i (h .counted + mostPolls (unitOf (h .world))) (h .trace i .response) is ys (next (receive p) h) (good-next (receive p) h g) (goes (q .0) (q .1)) (s .same-response)
+    (omega (arith, receive-uncounted h p, ap mostPolls (next-unit (receive p) h g)))

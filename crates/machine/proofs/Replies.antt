@@ -26,7 +26,7 @@ use Rattle.nvme_mi.specs.declared.MessageHeader.{MessageHeader}
 use Rattle.nvme_mi.specs.declared.Fault.{Fault}
 use Rattle.nvme_mi.specs.declared.Fault.the-variants.{NoFault, Parameter, Failure}
 use Rattle.machine.specs.State.{World, Outcome, slot, slotAt, withSlot, withEndpoint, withPhase, withBusy, idled, heldIn, outgoing, replySent, packetSent}
-use Rattle.machine.specs.Wire.{unit, packet-room, inward, wrongStores, opcodeOf, clearsFlags}
+use Rattle.machine.specs.Wire.{packetRoom, inward, wrongStores, opcodeOf, clearsFlags}
 use Rattle.machine.specs.Control.{bit, pausedSlot, pause, pauseWord, released, resumedSlot, resume, takenWord, abortWord, abort, stateNumber, stateWord, clearFlags, replayed, replay, acted, primitive, replied, controlledBy, controlled}
 use Rattle.machine.specs.Process.{request, processing, responded, respondedAtOnce, pausedIf, entered}
 use Rattle.machine.specs.Receive.{refused, refusedBusy, endedSlot, endAssembly, firstBy, first, received}
@@ -34,9 +34,9 @@ use Rattle.machine.specs.Finish.{isSlot, takenRow, takenFrom, taken, isB
 use Rattle.machine.specs.Poll.{Polled, otherSlot, ready, controlPacket, sentControl, commandPacket, afterPacket, sentCommand, replyFirst, polledBy, polled}
 use Rattle.machine.specs.Valid.{PhaseFacts, ValidFlags, Valid, Sound}
 use Rattle.machine.specs.Calls.{Call, receive, take!, read, complete, poll, timeout, reset, number, handed-out, Stepped, stepped, byOutcome, takeEvent, byPoll, step}
-use Rattle.machine.specs.History.{hasSom, sourceOf, messageTagOf, bytesFrom4, phaseAt, moved, one?, run, start, controlTests, isControl, isPrimitive, isAbort, cuts}
+use Rattle.machine.specs.History.{hasSom, sourceOf, messageTagOf, bytesFrom4, phaseAt, moved, unitOf, hasRoom, one?, run, start, controlTests, isControl, isPrimitive, isAbort, cuts}
 use Rattle.machine.specs.Demands.{isIdleNow, replyPacket, AbortIdles}
-use Rattle.machine.specs.Replies.{PrimitiveDone, csiOf, noCpsp, wrongReplay, isError, slotFound, worth, abortedProcess, abortedIn, stateOf, cpsrOf, bodyOf, unpaused, sentAgain, actedOn, flagsAfter, Replied, ControlReplied, isControlOut, SameReply, ReplyAfter, stays, goes, newer, was-reset, ReplyStays, ReplyFate, replaced, sent, replaces, hasRoom, replyFate, GoesWithin, ReplyGoes}
+use Rattle.machine.specs.Replies.{PrimitiveDone, csiOf, noCpsp, wrongReplay, isError, slotFound, worth, abortedProcess, abortedIn, stateOf, cpsrOf, bodyOf, unpaused, sentAgain, actedOn, flagsAfter, Replied, ControlReplied, isControlOut, SameReply, ReplyAfter, stays, goes, newer, was-reset, ReplyStays, ReplyFate, replaced, sent, replaces, pollsWithRoom, replyFate, GoesWithin, ReplyGoes}
 use Rattle.machine.specs.Types.{Ticket, Assembly, Taking, Untaken, Taken, Request, Outgoing, Held, NoResponse, Last, Phase, Idle, Receive, Process, Answered, Transmit, Slot, Endpoint, Done, TakeAnswer, TakeDone, Ready, Nothing, From, Acted}
 use Rattle.machine.specs.declared.TakeAnswer.the-variants.{Refused as TakeRefused, Given}
 use Rattle.machine.proofs.Slots.{facts-at}
@@ -112,10 +112,10 @@ state-word e v i =
 
 -- ---- what each primitive reports and leaves
 
-paused-slot : (s : Slot) → PhaseFacts (s .paused) (s .phase) → pausedSlot s ≡ slot (s .ticket) (not (isIdleNow (s .phase))) (s .busy) (s .phase)
-paused-slot s f = by (s .phase) refl f
+paused-slot : (unit : ℕ) (s : Slot) → PhaseFacts unit (s .paused) (s .phase) → pausedSlot s ≡ slot (s .ticket) (not (isIdleNow (s .phase))) (s .busy) (s .phase)
+paused-slot unit s f = by (s .phase) refl f
   where
-    by : (p : Phase) → s .phase ≡ p → PhaseFacts (s .paused) p → pausedSlot s ≡ slot (s .ticket) (not (isIdleNow (s .phase))) (s .busy) (s .phase)
+    by : (p : Phase) → s .phase ≡ p → PhaseFacts unit (s .paused) p → pausedSlot s ≡ slot (s .ticket) (not (isIdleNow (s .phase))) (s .busy) (s .phase)
     by (Idle held) e k = rw (e, sym (k .0)) refl
     by (Receive a) e k = rw e refl
     by (Process r) e k = rw e refl
@@ -143,7 +143,7 @@ module _ (m : List ℕ) (w : World) (v : Valid (w .endpoint)) where
   pauses o =
       record {
         word = rw o (pause-word (pausedSlot (slotAt (w .endpoint) 0) .paused) (pausedSlot (slotAt (w .endpoint) 1) .paused));
-        slots = λ j js. rw o (slot-both pausedSlot (w .endpoint) j js ∙ paused-slot (slotAt (w .endpoint) j) (facts-at j js v));
+        slots = λ j js. rw o (slot-both pausedSlot (w .endpoint) j js ∙ paused-slot (w .endpoint .unit) (slotAt (w .endpoint) j) (facts-at j js v));
         flags = rw o refl;
         eid = refl;
         turn = refl;
@@ -385,9 +385,11 @@ module _ (w₀ : World) (p : List ℕ) (s₀ : Sound w₀) where
   never b e f = false-true (sym e ∙ f)
 
   -- a primitive is read, and none of the tests that follow refuses it
-  is-read : Each (controlTests (w₀ .endpoint .eid) p) → readHeader (w₀ .endpoint .eid) unit inward p ≡ Packet (fields p)
+  is-read : Each (controlTests (w₀ .endpoint .eid) p) → readHeader (w₀ .endpoint .eid) (w₀ .endpoint .unit) inward p ≡ Packet (fields p)
   unfolding readHeader
-  is-read k = rw (eqb-true (length p) 16 (k .0), k .1 .0, k .1 .1 .0, k .1 .1 .1 .1 .1 .0) refl
+  is-read k =
+      let fits : ltb (w₀ .endpoint .unit + 4) 16 ≡ false = le-ltb (w₀ .endpoint .unit + 4) 16 (omega (arith, s₀ .state .numbers .unit-least)) in
+      rw (eqb-true (length p) 16 (k .0), fits, k .1 .0, k .1 .1 .0, k .1 .1 .1 .1 .1 .0) refl
 
   is-done : Each (controlTests (w₀ .endpoint .eid) p) → (w : World) → first w (fields p) (payloadOf p) .answer ≡ 2
   unfolding first opened
@@ -399,7 +401,7 @@ module _ (w₀ : World) (p : List ℕ) (s₀ : Sound w₀) where
       let ror : not (same (messageHeader m .ror) false) ≡ false = rw (not-true (messageHeader m .ror) (rest .1 .0)) refl in
       if-ind By (not (eqb (byteAt m 0) message-type)) (never _ (rw (rest .0) refl))
       (λ _.
-      if-ind By (isCut unit (fields p) (length m)) (never _ (rw eom refl))
+      if-ind By (isCut (w .endpoint .unit) (fields p) (length m)) (never _ (rw eom refl))
       (λ _.
       if-ind By (fields p .eom && ltb (length m) smallest) (never _ (rw (eom, twelve) refl))
       (λ _.
@@ -469,7 +471,7 @@ cut-idle (timeout j) w s i is k = false-true k
 cut-idle reset w s i is k = reset-idle (w .endpoint) i is
 
 pub abort-idles : AbortIdles
-abort-idles eid store0 store1 a b xs c i is k = cut-idle c (run xs (start eid store0 store1) .world) (good-every eid store0 store1 a b xs .sound) i is k
+abort-idles eid unit store0 store1 a b xs c i is k = cut-idle c (run xs (start eid unit store0 store1) .world) (good-every eid unit store0 store1 a b xs .sound) i is k
 
 -- ---- what a call that sends nothing leaves of the reply
 
@@ -590,20 +592,20 @@ heard w p s =
 
 data PollDoes (w : World) (buffer : List ℕ) : Stepped → Type 0 where
   -- refused, or nothing to send
-  nothing : (n : ℕ) → (leb 68 (length buffer) ≡ true → w .endpoint .«reply_waits» ≡ false) → PollDoes w buffer (stepped (number n) w)
+  nothing : (n : ℕ) → (hasRoom w buffer ≡ true → w .endpoint .«reply_waits» ≡ false) → PollDoes w buffer (stepped (number n) w)
   replies : w .endpoint .«reply_waits» ≡ true
       → PollDoes w buffer (stepped (handed-out (controlPacket (w .endpoint))) (withEndpoint w (replySent (w .endpoint))))
   -- a command packet goes before a waiting reply only if the last packet was control
   sends : (i : ℕ) (r : Outgoing) → Chosen (w .endpoint) i r → (w .endpoint .«reply_waits» ≡ true → w .endpoint .«last_control» ≡ true)
       → PollDoes w buffer
-      (stepped (handed-out (commandPacket w i r)) (withEndpoint w (packetSent (withSlot (w .endpoint) i (afterPacket (slotAt (w .endpoint) i) r)) (otherSlot i))))
+      (stepped (handed-out (commandPacket w i r)) (withEndpoint w (packetSent (withSlot (w .endpoint) i (afterPacket (w .endpoint .unit) (slotAt (w .endpoint) i) r)) (otherSlot i))))
 
 poll-does : (w : World) (buffer : List ℕ) → Sound w → PollDoes w buffer (step (poll buffer) w)
 unfolding step polled
 poll-does w buffer s =
     rw (right-stores w s)
-    (if-ind After (ltb (length buffer) packet-room)
-    (λ short. nothing 36 (λ room. absurd (omega (arith, ltb-true (length buffer) packet-room short, leb-true 68 (length buffer) room))))
+    (if-ind After (ltb (length buffer) (packetRoom (w .endpoint)))
+    (λ short. nothing 36 (λ room. absurd (omega (arith, ltb-true (length buffer) (packetRoom (w .endpoint)) short, leb-true (unitOf w + 4) (length buffer) room))))
     (λ room. by (ready (w .endpoint)) refl))
   where
     After : Polled → Type 0
@@ -629,7 +631,7 @@ poll-does w buffer s =
 
 data Effect (w : World) : Call → Stepped → Type 0 where
   -- the reply stays, and so does what polling goes by; if it waits, the call is no poll with room
-  keeps : {c : Call} {s : Stepped} → replaces c (s .event) ≡ false → isControlOut w s ≡ false → Still (w .endpoint) (s .world .endpoint) → (w .endpoint .«reply_waits» ≡ true → hasRoom c ≡ false)
+  keeps : {c : Call} {s : Stepped} → replaces c (s .event) ≡ false → isControlOut w s ≡ false → Still (w .endpoint) (s .world .endpoint) → (w .endpoint .«reply_waits» ≡ true → pollsWithRoom c w ≡ false)
       → Effect w c s
   -- a command packet goes: the next is the reply
   passes : {buffer : List ℕ} {s : Stepped} → isControlOut w s ≡ false → SameReply (w .endpoint) (s .world .endpoint)
@@ -650,7 +652,7 @@ of-slot w after bytes (suc zero) is h = rw h (by (moved (phaseAt w 0) (phaseAt a
 of-slot w after bytes (suc (suc n)) is h = absurd (omega arith)
 
 poll-effect : (w : World) (buffer : List ℕ) → Sound w → {s : Stepped} → PollDoes w buffer s → Effect w (poll buffer) s
-poll-effect w buffer v (nothing n none) = keeps refl refl refl (λ waits. by (leb 68 (length buffer)) (λ room. sym (none room) ∙ waits))
+poll-effect w buffer v (nothing n none) = keeps refl refl refl (λ waits. by (hasRoom w buffer) (λ room. sym (none room) ∙ waits))
   where
     by : (b : Bool) → (b ≡ true → false ≡ true) → b ≡ false
     by true k = false-true (k refl)
@@ -659,13 +661,13 @@ poll-effect w buffer v (replies waits) =
     let out : isControlOut w (stepped (handed-out (controlPacket (w .endpoint))) (withEndpoint w (replySent (w .endpoint)))) ≡ true =
     rw (moved-same (phaseAt w 0), moved-same (phaseAt w 1)) refl in
     let gone : replySent (w .endpoint) .«reply_waits» ≡ false = refl in
-    sends-it waits out (ap handed-out (reply-packet (w .endpoint) (v .state .reply-twelve))) gone
+    sends-it waits out (ap handed-out (reply-packet (w .endpoint) (v .state))) gone
 poll-effect w buffer v (sends i r c last) =
-    let t = afterPacket (slotAt (w .endpoint) i) r in
+    let t = afterPacket (w .endpoint .unit) (slotAt (w .endpoint) i) r in
     let after = withEndpoint w (packetSent (withSlot (w .endpoint) i t) (otherSlot i)) in
     let there : phaseAt after i ≡ t .phase = ap (λ (x : Slot). x .phase) (slot-this i (c .slot-is) (v .state) t) in
     let went : moved (phaseAt w i) (phaseAt after i) ≡ true =
-    ap (λ (x : Phase). moved (phaseAt w i) x) there ∙ ap (λ (x : Phase). moved x (t .phase)) (c .sends) ∙ onward-moves (onward (slotAt (w .endpoint) i) r) in
+    ap (λ (x : Phase). moved (phaseAt w i) x) there ∙ ap (λ (x : Phase). moved x (t .phase)) (c .sends) ∙ onward-moves (onward (w .endpoint .unit) (slotAt (w .endpoint) i) r) in
     let same : SameReply (w .endpoint) (after .endpoint) = record { same-waits = refl; same-reply = refl; same-to = refl; same-tag = refl; same-eid = refl } in
     let turns : after .endpoint .«last_control» ≡ false = refl in
     passes (of-slot w after (commandPacket w i r) i (c .slot-is) went) same last turns
@@ -736,10 +738,10 @@ module _ (e : Endpoint) (first : e .«reply_waits» ≡ true) where
 
   -- one call, and the rest of the list
   goes-on : {c : Call} {s : Stepped} (n : ℕ) (w : World) (rest : ReplyFate) → Waiting n w → Sound (s .world) → Effect w c s
-      → (Waiting (n + one? (hasRoom c)) (s .world) → Goes rest)
-      → Goes (if replaces c (s .event) then replaced else if isControlOut w s then sent (n + one? (hasRoom c)) (s .event) else rest)
+      → (Waiting (n + one? (pollsWithRoom c w)) (s .world) → Goes rest)
+      → Goes (if replaces c (s .event) then replaced else if isControlOut w s then sent (n + one? (pollsWithRoom c w)) (s .event) else rest)
   goes-on {c} {s} n w rest k v (keeps old out same none) more =
-      let quiet : one? (hasRoom c) ≡ 0 = rw (none (k .same .same-waits ∙ first)) refl in
+      let quiet : one? (pollsWithRoom c w) ≡ 0 = rw (none (k .same .same-waits ∙ first)) refl in
       rw (old, out)
       (more
       (record {
@@ -755,11 +757,11 @@ module _ (e : Endpoint) (first : e .«reply_waits» ≡ true) where
       (record {
         sound = v;
         same = still-same (k .same) same;
-        most = omega (arith, none-yet n (k .most) none, one-most (leb 68 (length buffer)));
+        most = omega (arith, none-yet n (k .most) none, one-most (hasRoom w buffer));
         turned = λ _. now;
       }))
   goes-on {s = s} n w rest k v (sends-it {buffer} waits out e gone) more =
-      rw out (omega (arith, k .most, one-most (leb 68 (length buffer))), e ∙ ap handed-out (same-packet (k .same)))
+      rw out (omega (arith, k .most, one-most (hasRoom w buffer)), e ∙ ap handed-out (same-packet (k .same)))
   goes-on n w rest k v (renews out e) more = rw e tt
   goes-on n w rest k v (resets out gone) more = tt
 
@@ -767,13 +769,13 @@ module _ (e : Endpoint) (first : e .«reply_waits» ≡ true) where
   unfolding replyFate
   goes-within [] n w k = (omega (arith, k .most), k .same)
   goes-within (c ∷ cs) n w k =
-      goes-on n w (replyFate (n + one? (hasRoom c)) cs (step c w .world)) k (step-sound c w (k .sound)) (effect c w (k .sound))
-      (goes-within cs (n + one? (hasRoom c)) (step c w .world))
+      goes-on n w (replyFate (n + one? (pollsWithRoom c w)) cs (step c w .world)) k (step-sound c w (k .sound)) (effect c w (k .sound))
+      (goes-within cs (n + one? (pollsWithRoom c w)) (step c w .world))
 
 pub reply-goes : ReplyGoes
-reply-goes eid store0 store1 a b xs waits ys =
-    let h = run xs (start eid store0 store1) in
-    let g = good-every eid store0 store1 a b xs in
+reply-goes eid unit store0 store1 a b xs waits ys =
+    let h = run xs (start eid unit store0 store1) in
+    let g = good-every eid unit store0 store1 a b xs in
     goes-within (h .world .endpoint) waits ys 0 (h .world)
     (record {
       sound = g .sound;

@@ -40,12 +40,12 @@ held-not e = differ (cc e)
 
 -- ---- a slot by its number
 
-pub slot-facts : {turn : ℕ} {l : List Slot} (i : ℕ) → i ≤ 1 → ValidSlots turn l → ValidSlot turn i (getD l i (fresh (ticket 0)))
+pub slot-facts : {unit turn : ℕ} {l : List Slot} (i : ℕ) → i ≤ 1 → ValidSlots unit turn l → ValidSlot unit turn i (getD l i (fresh (ticket 0)))
 slot-facts zero h (two vs vt a) = vs
 slot-facts (suc zero) h (two vs vt a) = vt
 slot-facts (suc (suc n)) h v = absurd (omega arith)
 
-pub facts-at : {e : Endpoint} (i : ℕ) → i ≤ 1 → Valid e → PhaseFacts (slotAt e i .paused) (slotAt e i .phase)
+pub facts-at : {e : Endpoint} (i : ℕ) → i ≤ 1 → Valid e → PhaseFacts (e .unit) (slotAt e i .paused) (slotAt e i .phase)
 facts-at i h v = slot-facts i h (v .slots-valid) .phase-facts
 
 -- ---- assemblies are told apart by source and tag
@@ -97,7 +97,7 @@ other-apart a (Answered r) h = refl
 other-apart a (Transmit r) h = refl
 
 -- the slot that gathers under this source and tag does so alone
-alone : {turn : ℕ} {l : List Slot} (i : ℕ) → i ≤ 1 → ValidSlots turn l → (a : Assembly) → getD l i (fresh (ticket 0)) .phase ≡ Receive a
+alone : {unit turn : ℕ} {l : List Slot} (i : ℕ) → i ≤ 1 → ValidSlots unit turn l → (a : Assembly) → getD l i (fresh (ticket 0)) .phase ≡ Receive a
     → gathers (a .source) (a .tag) (getD l (otherSlot i) (fresh (ticket 0)) .phase) ≡ false
 alone zero h (two {s} {t} vs vt k) a e = other-apart a (t .phase) (rw e at k)
 alone (suc zero) h (two {s} {t} vs vt k) a e = not-true (gathers (a .source) (a .tag) (s .phase)) (rw e at k)

@@ -18,14 +18,14 @@ use Rattle.machine.proofs.Refusals.{refused-call}
 -- ---- any other ticket
 
 pub stale-refused : StaleRefused
-stale-refused eid store0 store1 a b xs i is t body n =
-    let h = run xs (start eid store0 store1) in
-    let g = good-every eid store0 store1 a b xs in
+stale-refused eid unit store0 store1 a b xs i is t body n =
+    let h = run xs (start eid unit store0 store1) in
+    let g = good-every eid unit store0 store1 a b xs in
     let e = other-refused (h .world) (g .sound) i is t body n in (
       e,
       refused-call (complete i t body) (h .world) (if isProcess (phaseAt (h .world) i) then 32 else 31) (g .sound .state) e
           (if-ind (λ (m : ℕ). 30 ≤ m) (isProcess (phaseAt (h .world) i)) (λ _. omega arith) (λ _. omega arith))
-          (if-ind (λ (m : ℕ). m ≤ 38) (isProcess (phaseAt (h .world) i)) (λ _. omega arith) (λ _. omega arith)),
+          (if-ind (λ (m : ℕ). m ≤ 39) (isProcess (phaseAt (h .world) i)) (λ _. omega arith) (λ _. omega arith)),
     )
 
 -- ---- a list of calls, and one more
@@ -108,14 +108,14 @@ module _ (first : History) (g₀ : Good first) (i : ℕ) (is : i ≤ 1) where
   origin-fixed xs (unfixed e) n = absurd (n e)
   origin-fixed xs (fixed f) n = f
 
-none-yet : (eid : ℕ) (store0 store1 : List ℕ) (i : ℕ) → run [] (start eid store0 store1) .trace i .response ≡ []
+none-yet : (eid unit : ℕ) (store0 store1 : List ℕ) (i : ℕ) → run [] (start eid unit store0 store1) .trace i .response ≡ []
 unfolding run start
-none-yet eid store0 store1 i = refl
+none-yet eid unit store0 store1 i = refl
 
 pub never-stale : NeverStale
-never-stale eid store0 store1 a b xs i is buffer bytes e m =
-    let h₀ = start eid store0 store1 in
-    let g₀ = good-start eid store0 store1 a b in
-    let there = moved-full (run xs h₀) (good-every eid store0 store1 a b xs) i is (phaseAt (step (poll buffer) (run xs h₀ .world) .world) i) m in
-    let o = origin-on h₀ g₀ i is [] xs (unfixed (none-yet eid store0 store1 i)) in
-    (there, origin-fixed h₀ g₀ i is xs o there, answer-belongs eid store0 store1 a b xs buffer bytes e .of-slot i is m)
+never-stale eid unit store0 store1 a b xs i is buffer bytes e m =
+    let h₀ = start eid unit store0 store1 in
+    let g₀ = good-start eid unit store0 store1 a b in
+    let there = moved-full (run xs h₀) (good-every eid unit store0 store1 a b xs) i is (phaseAt (step (poll buffer) (run xs h₀ .world) .world) i) m in
+    let o = origin-on h₀ g₀ i is [] xs (unfixed (none-yet eid unit store0 store1 i)) in
+    (there, origin-fixed h₀ g₀ i is xs o there, answer-belongs eid unit store0 store1 a b xs buffer bytes e .of-slot i is m)

@@ -6,19 +6,19 @@ use mathlib.Core.Path.{_≡_, refl, sym, ap, _∙_}
 use mathlib.Core.Bool.{Bool, true, false, not, _&&_}
 use mathlib.Core.List.{List, [], _∷_}
 use native.Mathlib.Omega.{arith}
-use lib.Dec.{eqb, leb}
-use lib.ListN.{length}
-use lib.Seq.{take-all}
+use lib.Dec.{eqb}
 use borrow.Author.Tests.{eq-eqb, eqb-true, not-true}
 use Rattle.lent.specs.Choice.{if_then_else_}
 use Rattle.lent.proofs.Choice.{if-ind, false-true, and-both, differ}
 use Rattle.mctp.specs.Cut.{packet}
+use Rattle.mctp.proofs.Laws.{one-packet}
 use Rattle.machine.specs.State.{World, outcome, slotAt, storeAt, withSlot}
 use Rattle.machine.specs.Finish.{isSlot, takenRequest, takenRow, takenFrom, taken, part, isPresent, completedRow, completedIn, completed}
+use Rattle.machine.specs.Wire.{routeTo}
 use Rattle.machine.specs.Poll.{afterPacket, controlPacket, commandPacket}
-use Rattle.machine.specs.Valid.{PhaseFacts, Sound}
+use Rattle.machine.specs.Valid.{PhaseFacts, Valid, Sound}
 use Rattle.machine.specs.Calls.{Call, take!, read, complete, poll, Event, number, given, part-read, handed-out, Stepped, takeEvent, step}
-use Rattle.machine.specs.History.{Trace, History, phaseAt, pausedAt, isTransmit, isPacketOf, moved, responseFor, commanded, transmitted, traceAfter, counts, next, run, start}
+use Rattle.machine.specs.History.{Trace, History, phaseAt, pausedAt, isTransmit, isPacketOf, moved, responseFor, commanded, transmitted, traceAfter, counts, next, run, start, unitOf, hasRoom}
 use Rattle.machine.specs.Demands.{TicketCount, isProcess, TicketRule, AnswersOwn, routeOf, replyPacket, AnswerBelongs, PausesHold, isAnswered, isIdleNow, FlagsFit}
 use Rattle.machine.specs.Types.{Ticket, Taking, Untaken, Taken, Request, Outgoing, Phase, Idle, Receive, Process, Answered, Transmit, Slot, Endpoint, TakeDone}
 use Rattle.machine.proofs.Slots.{facts-at}
@@ -30,7 +30,7 @@ use Rattle.machine.proofs.Polling.{PollCase, still, replies, sends, pol
 use Rattle.machine.proofs.Histories.{Good, kept-by, good-next, good-run, good-every}
 
 pub ticket-count : TicketCount
-ticket-count eid store0 store1 a b xs i is = good-every eid store0 store1 a b xs .fits i is .ticket-is
+ticket-count eid unit store0 store1 a b xs i is = good-every eid unit store0 store1 a b xs .fits i is .ticket-is
 
 -- ---- entries only grow, and a request stays while its command is in Process
 
@@ -176,9 +176,9 @@ other-refused w s i is t body n = rw (right-stores w s, slot-yes i is) (into (ph
     into (Transmit r) = refl
 
 pub ticket-rule : TicketRule
-ticket-rule eid store0 store1 a b xs i t e ys body lo hi =
-    let h = run xs (start eid store0 store1) in
-    let g = good-every eid store0 store1 a b xs in
+ticket-rule eid unit store0 store1 a b xs i t e ys body lo hi =
+    let h = run xs (start eid unit store0 store1) in
+    let g = good-every eid unit store0 store1 a b xs in
     let k = gave (h .world) (g .sound) i t e in
     let is = k .slot-is in
     let g₂ = good-run ys (next (take! i) h) (good-next (take! i) h g) in
@@ -229,7 +229,7 @@ completes h i t body e =
     go v k = rw (k, eq-eqb i i refl) refl
 
 -- the reading call hands back the request
-reads : (w : World) → Sound w → (i : ℕ) → i ≤ 1 → (r : Request) (l : Trace) → phaseAt w i ≡ Process (takenRequest r) → Fit (slotAt (w .endpoint) i) (storeAt w i) l
+reads : (w : World) → Sound w → (i : ℕ) → i ≤ 1 → (r : Request) (l : Trace) → phaseAt w i ≡ Process (takenRequest r) → Fit (w .endpoint .unit) (slotAt (w .endpoint) i) (storeAt w i) l
     → step (read i) w .event ≡ part-read (l .request)
 unfolding step part
 reads w s i is r l p f =
@@ -237,11 +237,11 @@ reads w s i is r l p f =
     rw (right-stores w s, slot-yes i is, p) (ap part-read (k .held))
 
 pub answers-own : AnswersOwn
-answers-own eid store0 store1 a b xs i t e ys body hi done =
-    let h = run xs (start eid store0 store1) in
+answers-own eid unit store0 store1 a b xs i t e ys body hi done =
+    let h = run xs (start eid unit store0 store1) in
     let h₁ = next (take! i) h in
     let h₂ = run ys h₁ in
-    let g = good-every eid store0 store1 a b xs in
+    let g = good-every eid unit store0 store1 a b xs in
     let g₁ = good-next (take! i) h g in
     let g₂ = good-run ys h₁ g₁ in
     let k = gave (h .world) (g .sound) i t e in
@@ -269,9 +269,10 @@ same-bytes : {s u : List ℕ} → handed-out u ≡ handed-out s → s ≡ u
 same-bytes e = cc
 
 -- the control reply in literal bytes
-pub reply-packet : (e : Endpoint) → length (e .reply) ≡ 12 → controlPacket e ≡ replyPacket e
-unfolding packet
-reply-packet e n = rw (n, take-all 64 (e .reply) (omega arith)) refl
+pub reply-packet : (e : Endpoint) → Valid e → controlPacket e ≡ replyPacket e
+reply-packet e v =
+    let n = v .reply-twelve in
+    one-packet (e .unit) (routeTo e (e .«reply_to») (e .«reply_tag»)) (e .reply) (omega (arith, n)) (omega (arith, n, v .numbers .unit-least))
 
 -- a slot that sends a packet has a response
 pub moved-full : (h : History) → Good h → (i : ℕ) → i ≤ 1 → (q : Phase) → moved (phaseAt (h .world) i) q ≡ true → h .trace i .response ≡ [] → ⊥
@@ -288,16 +289,16 @@ moved-full h g i is q m =
 -- what a poll hands out, from the world before and what it leaves
 pub record BelongsBy (h : History) (s : Stepped) (bytes : List ℕ) : Type 0 where
   pub of-slot : (i : ℕ) → i ≤ 1 → moved (phaseAt (h .world) i) (phaseAt (s .world) i) ≡ true
-      → bytes ≡ packet 64 (routeOf h i) (h .trace i .response) (h .trace i .packets)
+      → bytes ≡ packet (unitOf (h .world)) (routeOf h i) (h .trace i .response) (h .trace i .packets)
   pub of-none : ((i : ℕ) → i ≤ 1 → moved (phaseAt (h .world) i) (phaseAt (s .world) i) ≡ false)
       → (h .world .endpoint .«reply_waits» ≡ true) × (bytes ≡ replyPacket (h .world .endpoint))
 
 module _ (h : History) (g : Good h) (buffer : List ℕ) where
   -- the packet of the slot that is chosen
   next-packet : (i : ℕ) → i ≤ 1 → (r : Outgoing) → phaseAt (h .world) i ≡ Transmit r
-      → commandPacket (h .world) i r ≡ packet 64 (routeOf h i) (h .trace i .response) (h .trace i .packets)
+      → commandPacket (h .world) i r ≡ packet (unitOf (h .world)) (routeOf h i) (h .trace i .response) (h .trace i .packets)
   next-packet i is r p =
-      let k : Going r (storeAt (h .world) i) (h .trace i) = rw p at (g .fits i is .phase-fits) in
+      let k : Going (h .world .endpoint .unit) r (storeAt (h .world) i) (h .trace i) = rw p at (g .fits i is .phase-fits) in
       rw (k .full .held, k .full .to, k .full .under, k .count) refl
 
   belongs-by : {s : Stepped} (bytes : List ℕ) → PollCase (h .world) buffer s → s .event ≡ handed-out bytes → BelongsBy h s bytes
@@ -305,7 +306,7 @@ module _ (h : History) (g : Good h) (buffer : List ℕ) where
   belongs-by bytes (replies waits _) e =
       record {
         of-slot = λ i is m. false-true (sym (moved-same (phaseAt (h .world) i)) ∙ m);
-        of-none = λ _. (waits, same-bytes e ∙ reply-packet (h .world .endpoint) (g .sound .state .reply-twelve));
+        of-none = λ _. (waits, same-bytes e ∙ reply-packet (h .world .endpoint) (g .sound .state));
       }
   belongs-by bytes (sends k q c counted) e =
       record {
@@ -320,20 +321,20 @@ module _ (h : History) (g : Good h) (buffer : List ℕ) where
       ks = picked .slot-is
 
       after : Slot
-      after = afterPacket (slotAt (h .world .endpoint) k) q
+      after = afterPacket (h .world .endpoint .unit) (slotAt (h .world .endpoint) k) q
 
-      own : moved (phaseAt (h .world) k) (slotAt (withSlot (h .world .endpoint) k (afterPacket (slotAt (h .world .endpoint) k) q)) k .phase) ≡ true
-      own = go (phaseAt (h .world) k) _ (picked .sends) (ap (λ (s : Slot). s .phase) (slot-this k ks (g .sound .state) (afterPacket (slotAt (h .world .endpoint) k) q)))
+      own : moved (phaseAt (h .world) k) (slotAt (withSlot (h .world .endpoint) k (afterPacket (h .world .endpoint .unit) (slotAt (h .world .endpoint) k) q)) k .phase) ≡ true
+      own = go (phaseAt (h .world) k) _ (picked .sends) (ap (λ (s : Slot). s .phase) (slot-this k ks (g .sound .state) (afterPacket (h .world .endpoint .unit) (slotAt (h .world .endpoint) k) q)))
         where
-          go : (p x : Phase) → p ≡ Transmit q → x ≡ afterPacket (slotAt (h .world .endpoint) k) q .phase → moved p x ≡ true
-          go p x a b = rw (a, b) (onward-moves (onward (slotAt (h .world .endpoint) k) q))
+          go : (p x : Phase) → p ≡ Transmit q → x ≡ afterPacket (h .world .endpoint .unit) (slotAt (h .world .endpoint) k) q .phase → moved p x ≡ true
+          go p x a b = rw (a, b) (onward-moves (onward (h .world .endpoint .unit) (slotAt (h .world .endpoint) k) q))
 
-      at : (i : ℕ) → i ≤ 1 → Which k i → moved (phaseAt (h .world) i) (slotAt (withSlot (h .world .endpoint) k (afterPacket (slotAt (h .world .endpoint) k) q)) i .phase) ≡ true
-          → bytes ≡ packet 64 (routeOf h i) (h .trace i .response) (h .trace i .packets)
+      at : (i : ℕ) → i ≤ 1 → Which k i → moved (phaseAt (h .world) i) (slotAt (withSlot (h .world .endpoint) k (afterPacket (h .world .endpoint .unit) (slotAt (h .world .endpoint) k) q)) i .phase) ≡ true
+          → bytes ≡ packet (unitOf (h .world)) (routeOf h i) (h .trace i .response) (h .trace i .packets)
       at i is (this p) m = same-bytes e ∙ rw p (next-packet k ks q (picked .sends))
       at i is (that p) m =
-          let still-there : slotAt (withSlot (h .world .endpoint) k (afterPacket (slotAt (h .world .endpoint) k) q)) i .phase ≡ phaseAt (h .world) i =
-          rw p (ap (λ (s : Slot). s .phase) (slot-that k ks (g .sound .state) (afterPacket (slotAt (h .world .endpoint) k) q))) in
+          let still-there : slotAt (withSlot (h .world .endpoint) k (afterPacket (h .world .endpoint .unit) (slotAt (h .world .endpoint) k) q)) i .phase ≡ phaseAt (h .world) i =
+          rw p (ap (λ (s : Slot). s .phase) (slot-that k ks (g .sound .state) (afterPacket (h .world .endpoint .unit) (slotAt (h .world .endpoint) k) q))) in
           false-true (sym (moved-same (phaseAt (h .world) i)) ∙ sym (ap (moved (phaseAt (h .world) i)) still-there) ∙ m)
 
   -- a command packet goes by a poll that is counted
@@ -343,38 +344,38 @@ module _ (h : History) (g : Good h) (buffer : List ℕ) where
   counted-by i (sends k q c counted) e = counted
 
 pub answer-belongs : AnswerBelongs
-answer-belongs eid store0 store1 a b xs buffer bytes e =
-    let h = run xs (start eid store0 store1) in
-    let g = good-every eid store0 store1 a b xs in
+answer-belongs eid unit store0 store1 a b xs buffer bytes e =
+    let h = run xs (start eid unit store0 store1) in
+    let g = good-every eid unit store0 store1 a b xs in
     let k = belongs-by h g buffer bytes (poll-case (h .world) buffer (g .sound)) e in
     record { of-slot = k .of-slot; of-none = k .of-none }
 
 -- ---- the laws beside them
 
 pub pauses-hold : PausesHold
-pauses-hold eid store0 store1 a b xs i is buffer e =
-    let h = run xs (start eid store0 store1) in
-    let g = good-every eid store0 store1 a b xs in
+pauses-hold eid unit store0 store1 a b xs i is buffer e =
+    let h = run xs (start eid unit store0 store1) in
+    let g = good-every eid unit store0 store1 a b xs in
     let c = counted-by h g buffer i (poll-case (h .world) buffer (g .sound)) e in
-    let k = and-both (not (pausedAt (h .world) 0)) (not (pausedAt (h .world) 1)) (and-both (leb 68 (length buffer)) (not (pausedAt (h .world) 0) && not (pausedAt (h .world) 1)) c .1) in
+    let k = and-both (not (pausedAt (h .world) 0)) (not (pausedAt (h .world) 1)) (and-both (hasRoom (h .world) buffer) (not (pausedAt (h .world) 0) && not (pausedAt (h .world) 1)) c .1) in
     (not-true (pausedAt (h .world) 0) (k .0), not-true (pausedAt (h .world) 1) (k .1))
 
-answered-flag : (b : Bool) (p : Phase) → PhaseFacts b p → isAnswered p ≡ true → b ≡ true
-answered-flag b (Idle held) f h = false-true h
-answered-flag b (Receive a) f h = false-true h
-answered-flag b (Process r) f h = false-true h
-answered-flag b (Answered r) f h = f .0
-answered-flag b (Transmit r) f h = false-true h
+answered-flag : (unit : ℕ) (b : Bool) (p : Phase) → PhaseFacts unit b p → isAnswered p ≡ true → b ≡ true
+answered-flag unit b (Idle held) f h = false-true h
+answered-flag unit b (Receive a) f h = false-true h
+answered-flag unit b (Process r) f h = false-true h
+answered-flag unit b (Answered r) f h = f .0
+answered-flag unit b (Transmit r) f h = false-true h
 
-idle-flag : (b : Bool) (p : Phase) → PhaseFacts b p → isIdleNow p ≡ true → b ≡ false
-idle-flag b (Idle held) f h = f .0
-idle-flag b (Receive a) f h = false-true h
-idle-flag b (Process r) f h = false-true h
-idle-flag b (Answered r) f h = false-true h
-idle-flag b (Transmit r) f h = false-true h
+idle-flag : (unit : ℕ) (b : Bool) (p : Phase) → PhaseFacts unit b p → isIdleNow p ≡ true → b ≡ false
+idle-flag unit b (Idle held) f h = f .0
+idle-flag unit b (Receive a) f h = false-true h
+idle-flag unit b (Process r) f h = false-true h
+idle-flag unit b (Answered r) f h = false-true h
+idle-flag unit b (Transmit r) f h = false-true h
 
 pub flags-fit : FlagsFit
-flags-fit eid store0 store1 a b xs i is =
-    let h = run xs (start eid store0 store1) in
-    let f = facts-at i is (good-every eid store0 store1 a b xs .sound .state) in
-    (answered-flag (pausedAt (h .world) i) (phaseAt (h .world) i) f, idle-flag (pausedAt (h .world) i) (phaseAt (h .world) i) f)
+flags-fit eid unit store0 store1 a b xs i is =
+    let h = run xs (start eid unit store0 store1) in
+    let f = facts-at i is (good-every eid unit store0 store1 a b xs .sound .state) in
+    (answered-flag (unitOf (h .world)) (pausedAt (h .world) i) (phaseAt (h .world) i) f, idle-flag (unitOf (h .world)) (pausedAt (h .world) i) (phaseAt (h .world) i) f)

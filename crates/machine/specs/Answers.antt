@@ -45,9 +45,6 @@ wrong-body-size = 35
 abbrev pub not-gathering : ℕ
 not-gathering = 37
 
-abbrev pub wrong-eid : ℕ
-wrong-eid = 38
-
 -- ---- polling
 
 abbrev pub nothing-to-send : ℕ

@@ -91,9 +91,9 @@ step (timeout i) w = byDone w (timedOut (w .endpoint) i)
 step reset w = byDone w (wasReset (w .endpoint))
 
 -- the world at the start of a list of calls: setup's state, whatever it answered, and any bytes in the stores
-unfoldable pub begin : ℕ → List ℕ → List ℕ → World
+unfoldable pub begin : ℕ → ℕ → List ℕ → List ℕ → World
 unfolding wasSetUp
-begin eid store0 store1 = world (wasSetUp eid .endpoint) store0 store1
+begin eid unit store0 store1 = world (wasSetUp eid unit .endpoint) store0 store1
 
 -- what the calls of a list answer, one after the other
 unfoldable pub events : List Call → World → List Event

@@ -1,20 +1,21 @@
--- Demands 2 and 3 as statements about lists of calls. Their proofs: `demand-3` (proofs/Delivery), `answer-arrives`, `error-arrives`
+-- Demands 2 and 3 as statements about lists of calls. Their proofs: `demand-3`, `at-most`, `quoted` (proofs/Delivery), `answer-arrives`, `error-arrives`
 -- (proofs/Arrives), `ticket-count`, `ticket-rule`, `answers-own`, `answer-belongs`, `pauses-hold`, `flags-fit` (proofs/Tickets),
--- `abort-idles` (proofs/Replies), `always-sound` (proofs/Histories), `eid-kept` (proofs/Identity).
+-- `abort-idles` (proofs/Replies), `always-sound` (proofs/Histories), `identity-kept` (proofs/Identity).
 -- Assumes nothing.
 use Prim.Native.Nat.{ℕ, _+_, _*_, _%_, _^_, _≤_, _<_}
 use mathlib.Core.Path.{_≡_}
-use mathlib.Core.Bool.{Bool, true, false, _&&_}
+use mathlib.Core.Bool.{Bool, true, false}
 use mathlib.Core.List.{List, [], _∷_}
-use lib.Dec.{leb}
+use lib.Dec.{eqb}
 use lib.ListN.{length}
 use Rattle.lent.specs.Choice.{if_then_else_}
+use Rattle.mctp.specs.Setup.{setupNumber}
 use Rattle.mctp.specs.Cut.{packet}
 use Rattle.mctp.specs.declared.Route.{Route}
 use Rattle.machine.specs.State.{slotAt}
 use Rattle.machine.specs.Valid.{phased, Sound}
 use Rattle.machine.specs.Calls.{Call, receive, take!, read, complete, poll, number, given, part-read, handed-out, step}
-use Rattle.machine.specs.History.{History, phaseAt, pausedAt, isTransmit, isFor, requestWith, responseFor, fixedAtEntry, isPacketOf, next, run, start, cuts, packetsLeft, lastPacketOut}
+use Rattle.machine.specs.History.{History, phaseAt, pausedAt, isTransmit, isFor, requestWith, responseFor, fixedAtEntry, isPacketOf, unitOf, next, run, start, cuts, overUnit, packetsLeft, lastPacketOut}
 use Rattle.machine.specs.Types.{Ticket, NoResponse, Phase, Idle, Endpoint}
 
 -- ---- what happens first to the response that slot i is sending
@@ -41,53 +42,59 @@ Within most i response cut = Unit {0}
 Within most i response (delivered h) = (h .counted ≤ most) × (h .trace i .payloads ≡ response)
 Within most i response (open! h) = h .counted < most
 
--- the counted polls that are enough for a slot with k packets left
-abbrev pub pollsFor : ℕ → ℕ
-pollsFor k = 2 * (66 + k)
+-- any list of calls from any setup, whatever EID and unit it was given, on two stores of 4,224 bytes with any bytes in them
+abbrev pub Every : (History → Type 0) → Type 0
+Every P =
+    (eid unit : ℕ) (store0 store1 : List ℕ) → length store0 ≡ 4224 → length store1 ≡ 4224 → (xs : List Call) → P (run xs (start eid unit store0 store1))
 
--- DEMAND 3. Any EID given to setup, any bytes in two stores of 4,224, any list of calls `xs`, any later list `ys`, either slot. Where the slot
--- is in Transmit after xs with k packets left, k is 1 to 66; and along ys, unless an Abort acts on the slot or a reset comes first, its last
--- packet is handed out by the time 2 x (66 + k) more polls were counted, and then its payloads joined are exactly the response for its ticket.
+-- the packets of the longest response: 4,224 over U, rounded up
+abbrev pub mostPackets : ℕ → ℕ
+mostPackets unit = overUnit unit 4224
+
+-- the counted polls that are enough for a slot with k packets left: document 01's 2 x (66 + k), where the 66 is `mostPackets`
+abbrev pub pollsFor : ℕ → ℕ → ℕ
+pollsFor unit k = 2 * (mostPackets unit + k)
+
+-- DEMAND 3. Any list of calls from any setup, any later list `ys`, either slot. Where the slot is in Transmit with k packets left, k is 1 to
+-- `mostPackets`; and along ys, unless an Abort acts on the slot or a reset comes first, its last packet is handed out by the time `pollsFor` more
+-- polls were counted, and then its payloads joined are exactly the response for its ticket.
 abbrev pub Demand3 : Type 0
 Demand3 =
-    (eid : ℕ) (store0 store1 : List ℕ) → length store0 ≡ 4224 → length store1 ≡ 4224 → (xs ys : List Call) (i : ℕ) → i ≤ 1
-    → isTransmit (phaseAt (run xs (start eid store0 store1) .world) i) ≡ true
-    → (1 ≤ packetsLeft i (run xs (start eid store0 store1)))
-    × (packetsLeft i (run xs (start eid store0 store1)) ≤ 66)
-    × Within (run xs (start eid store0 store1) .counted + pollsFor (packetsLeft i (run xs (start eid store0 store1)))) i
-    (run xs (start eid store0 store1) .trace i .response) (fate i ys (run xs (start eid store0 store1)))
+    Every (λ h. (ys : List Call) (i : ℕ) → i ≤ 1 → isTransmit (phaseAt (h .world) i) ≡ true
+    → (1 ≤ packetsLeft i h)
+    × (packetsLeft i h ≤ mostPackets (unitOf (h .world)))
+    × Within (h .counted + pollsFor (unitOf (h .world)) (packetsLeft i h)) i (h .trace i .response) (fate i ys h))
 
--- what people quote: 264 polls at most, whatever is left
-abbrev pub AtMost264 : Type 0
-AtMost264 =
-    (eid : ℕ) (store0 store1 : List ℕ) → length store0 ≡ 4224 → length store1 ≡ 4224 → (xs ys : List Call) (i : ℕ) → i ≤ 1
-    → isTransmit (phaseAt (run xs (start eid store0 store1) .world) i) ≡ true
-    → Within (run xs (start eid store0 store1) .counted + 264) i (run xs (start eid store0 store1) .trace i .response) (fate i ys (run xs (start eid store0 store1)))
+-- the polls that are enough whatever is left
+abbrev pub mostPolls : ℕ → ℕ
+mostPolls unit = 4 * mostPackets unit
 
--- A COMPLETION THAT IS ACCEPTED IS NOT LOST. Its response, with that very body, goes out whole with at most 264 more polls counted, also where
--- it first waits under its slot's pause flag (no poll is counted then), unless the slot is aborted or the endpoint reset.
+abbrev pub AtMost : Type 0
+AtMost =
+    Every (λ h. (ys : List Call) (i : ℕ) → i ≤ 1 → isTransmit (phaseAt (h .world) i) ≡ true
+    → Within (h .counted + mostPolls (unitOf (h .world))) i (h .trace i .response) (fate i ys h))
+
+-- what people quote: 264 polls at the unit 64, 68 at 250; and a larger unit never needs more
+pub record Quoted : Type 0 where
+  pub at-64 : mostPolls 64 ≡ 264
+  pub at-250 : mostPolls 250 ≡ 68
+  pub larger : (unit more : ℕ) → 0 < unit → mostPolls (unit + more) ≤ mostPolls unit
+
+-- A COMPLETION THAT IS ACCEPTED IS NOT LOST. Its response, with that very body, goes out whole with at most `mostPolls` more polls counted, also
+-- where it first waits under its slot's pause flag (no poll is counted then), unless the slot is aborted or the endpoint reset.
 abbrev pub AnswerArrives : Type 0
 AnswerArrives =
-    (eid : ℕ) (store0 store1 : List ℕ) → length store0 ≡ 4224 → length store1 ≡ 4224 → (xs ys : List Call) (i : ℕ) → i ≤ 1 → (t : Ticket) (body : List ℕ)
-    → step (complete i t body) (run xs (start eid store0 store1) .world) .event ≡ number 0
-    → Within (run xs (start eid store0 store1) .counted + 264) i (responseFor i (run xs (start eid store0 store1) .trace i .request) body)
-    (fate i ys (next (complete i t body) (run xs (start eid store0 store1))))
+    Every (λ h. (ys : List Call) (i : ℕ) → i ≤ 1 → (t : Ticket) (body : List ℕ) → step (complete i t body) (h .world) .event ≡ number 0
+    → Within (h .counted + mostPolls (unitOf (h .world))) i (responseFor i (h .trace i .request) body) (fate i ys (next (complete i t body) h)))
 
 -- and so does the error response of a command that failed a test at its entry into Process
 abbrev pub ErrorArrives : Type 0
 ErrorArrives =
-    (eid : ℕ) (store0 store1 : List ℕ) → length store0 ≡ 4224 → length store1 ≡ 4224 → (xs ys : List Call) (i : ℕ) → i ≤ 1 → (p : List ℕ)
-    → step (receive p) (run xs (start eid store0 store1) .world) .event ≡ number 1 → isFor i p (run xs (start eid store0 store1) .world) ≡ true
-    → (fixedAtEntry i (requestWith p (run xs (start eid store0 store1) .trace i)) ≡ [] → ⊥)
-    → Within (run xs (start eid store0 store1) .counted + 264) i (fixedAtEntry i (requestWith p (run xs (start eid store0 store1) .trace i)))
-    (fate i ys (next (receive p) (run xs (start eid store0 store1))))
+    Every (λ h. (ys : List Call) (i : ℕ) → i ≤ 1 → (p : List ℕ) → step (receive p) (h .world) .event ≡ number 1 → isFor i p (h .world) ≡ true
+    → (fixedAtEntry i (requestWith p (h .trace i)) ≡ [] → ⊥)
+    → Within (h .counted + mostPolls (unitOf (h .world))) i (fixedAtEntry i (requestWith p (h .trace i))) (fate i ys (next (receive p) h)))
 
 -- ---- DEMAND 2, the ticket rule
-
--- any list of calls from any setup, on two stores of 4,224 bytes
-abbrev pub Every : (History → Type 0) → Type 0
-Every P =
-    (eid : ℕ) (store0 store1 : List ℕ) → length store0 ≡ 4224 → length store1 ≡ 4224 → (xs : List Call) → P (run xs (start eid store0 store1))
 
 -- the slot's ticket is the number of its entries into Process, modulo 2^32; no call sets it back, a reset neither
 abbrev pub TicketCount : Type 0
@@ -134,7 +141,7 @@ replyPacket e = 1 ∷ e .«reply_to» ∷ e .eid ∷ (0xC0 + e .«reply_tag» % 
 -- the control reply that waited
 pub record Belongs (h : History) (buffer : List ℕ) (bytes : List ℕ) : Type 0 where
   pub of-slot : (i : ℕ) → i ≤ 1 → isPacketOf (phaseAt (h .world) i) (phaseAt (step (poll buffer) (h .world) .world) i) (handed-out bytes) ≡ true
-      → bytes ≡ packet 64 (routeOf h i) (h .trace i .response) (h .trace i .packets)
+      → bytes ≡ packet (unitOf (h .world)) (routeOf h i) (h .trace i .response) (h .trace i .packets)
   pub of-none : ((i : ℕ) → i ≤ 1 → isPacketOf (phaseAt (h .world) i) (phaseAt (step (poll buffer) (h .world) .world) i) (handed-out bytes) ≡ false)
       → (h .world .endpoint .«reply_waits» ≡ true) × (bytes ≡ replyPacket (h .world .endpoint))
 
@@ -171,8 +178,12 @@ AbortIdles = Every (λ h. (c : Call) (i : ℕ) → i ≤ 1 → cuts i c (h .worl
 abbrev pub AlwaysSound : Type 0
 AlwaysSound = Every (λ h. Sound (h .world))
 
--- the EID is the one that setup was given, 8 where it refused it; no call changes it
-abbrev pub EidKept : Type 0
-EidKept =
-    (eid : ℕ) (store0 store1 : List ℕ) → length store0 ≡ 4224 → length store1 ≡ 4224 → (xs : List Call)
-    → run xs (start eid store0 store1) .world .endpoint .eid ≡ (if leb 8 eid && leb eid 254 then eid else 8)
+-- THE EID AND THE UNIT are those that setup was given, 8 and 64 where it refused one of them; no call changes them
+pub record SetupKept (eid unit : ℕ) (e : Endpoint) : Type 0 where
+  pub eid-is : e .eid ≡ (if eqb (setupNumber eid unit) 0 then eid else 8)
+  pub unit-is : e .unit ≡ (if eqb (setupNumber eid unit) 0 then unit else 64)
+
+abbrev pub IdentityKept : Type 0
+IdentityKept =
+    (eid unit : ℕ) (store0 store1 : List ℕ) → length store0 ≡ 4224 → length store1 ≡ 4224 → (xs : List Call)
+    → SetupKept eid unit (run xs (start eid unit store0 store1) .world .endpoint)

@@ -6,7 +6,8 @@ use mathlib.Core.List.{List, [], _∷_}
 use lib.Dec.{eqb, ltb}
 use lib.ListN.{length, take, replicate}
 use Rattle.lent.specs.Choice.{if_then_else_}
-use Rattle.machine.specs.Answers.{done, no-such-slot, no-command, other-ticket, taken-already, not-taken, wrong-body-size, not-gathering, wrong-eid, wrong-stores}
+use Rattle.mctp.specs.Setup.{first-eid, least-unit, setupRefusal}
+use Rattle.machine.specs.Answers.{done, no-such-slot, no-command, other-ticket, taken-already, not-taken, wrong-body-size, not-gathering, wrong-stores}
 use Rattle.machine.specs.State.{World, Outcome, outcome, ended, slotAt, storeAt, withSlot, withPhase, idled, fresh, ticket, endpoint}
 use Rattle.machine.specs.Wire.{wrongStores}
 use Rattle.machine.specs.Process.{responded}
@@ -114,20 +115,21 @@ timedOut e i =
 
 -- ---- reset and setup
 
--- all zero but the EID, the flags and the ticket counts; slot 0's turn, last packet counted as not control
-abbrev pub started : ℕ → ℕ → Ticket → Ticket → Endpoint
-started eid flags t0 t1 = endpoint eid (fresh t0 ∷ fresh t1 ∷ []) flags (replicate 12 0) false 0 0 0 false
+-- all zero but the EID, the unit, the flags and the ticket counts; slot 0's turn, last packet counted as not control
+abbrev pub started : ℕ → ℕ → ℕ → Ticket → Ticket → Endpoint
+started eid unit flags t0 t1 = endpoint eid unit (fresh t0 ∷ fresh t1 ∷ []) flags (replicate 12 0) false 0 0 0 false
 
 -- both slots Idle, bits 3 to 12 cleared, control reply gone, bit 14 set, slot 0's turn, last packet counted as not control, ticket counts
 -- kept; answer 0
 unfoldable pub wasReset : Endpoint → Done
-wasReset e = ended done (started (e .eid) (2 ^ 14) (slotAt e 0 .ticket) (slotAt e 1 .ticket))
+wasReset e = ended done (started (e .eid) (e .unit) (2 ^ 14) (slotAt e 0 .ticket) (slotAt e 1 .ticket))
 
-abbrev pub initial : ℕ → Endpoint
-initial eid = started eid 0 (ticket 0) (ticket 0)
+abbrev pub initial : ℕ → ℕ → Endpoint
+initial eid unit = started eid unit 0 (ticket 0) (ticket 0)
 
--- EID 8 to 254, else 38, and the state beside that answer is the one for EID 8
-unfoldable pub wasSetUp : ℕ → Done
-wasSetUp eid =
-    if ltb eid 8 || ltb 254 eid then ended wrong-eid (initial 8)
-    else ended done (initial eid)
+-- 38 and 39 are `mctp`'s; "beside either stands the state for EID 8, U 64"
+unfoldable pub wasSetUp : ℕ → ℕ → Done
+unfolding setupRefusal
+wasSetUp eid unit =
+    if eqb (setupRefusal eid unit) 0 then ended done (initial eid unit)
+    else ended (setupRefusal eid unit) (initial first-eid least-unit)

@@ -13,7 +13,7 @@ use Rattle.mctp.specs.declared.Route.{Route}
 use Rattle.machine.specs.Types.{Phase}
 use Rattle.machine.specs.Valid.{phased}
 use Rattle.machine.specs.Calls.{receive, number, step}
-use Rattle.machine.specs.History.{Trace, History, phaseAt, bytesFrom4, isFor, requestWith, next}
+use Rattle.machine.specs.History.{Trace, History, phaseAt, bytesFrom4, isFor, requestWith, unitOf, next}
 use Rattle.machine.specs.Demands.{Every}
 
 -- what is gathered in a slot, in `mctp`'s words: its assembly, with the payloads so far
@@ -26,7 +26,7 @@ gatheringAt h i = gatheringIn (phaseAt (h .world) i) (h .trace i)
 
 -- what `mctp` makes of one packet more
 abbrev pub gatheredWith : History → ℕ → List ℕ → Gathered
-gatheredWith h i p = gatherRead 64 4224 (gatheringAt h i) (bytesFrom4 p) (readHeader (h .world .endpoint .eid) 64 true p)
+gatheredWith h i p = gatherRead (unitOf (h .world)) 4224 (gatheringAt h i) (bytesFrom4 p) (readHeader (h .world .endpoint .eid) (unitOf (h .world)) true p)
 
 -- a packet for slot i: where it is answered 0, more to come, the slot gathers what `mctp` does; where 1, command complete, `mctp` has the whole
 -- message, and it is the request
@@ -46,11 +46,11 @@ pub data Arrives (i : ℕ) : History → List (List ℕ) → List ℕ → Type 0
 -- the request is then what `mctp` gathers from that list of packets
 abbrev pub GathersAll : Type 0
 GathersAll =
-    Every (λ h. (i : ℕ) → i ≤ 1 → (ps : List (List ℕ)) (m : List ℕ) → Arrives i h ps m → gather (h .world .endpoint .eid) 64 4224 true (gatheringAt h i) ps ≡ whole m)
+    Every (λ h. (i : ℕ) → i ≤ 1 → (ps : List (List ℕ)) (m : List ℕ) → Arrives i h ps m → gather (h .world .endpoint .eid) (unitOf (h .world)) 4224 true (gatheringAt h i) ps ≡ whole m)
 
--- WHAT WAS CUT IS GATHERED. A message of 1 to 4,224 bytes, cut into packets for this endpoint: where they are taken in one after the other, the
+-- WHAT WAS CUT IS GATHERED. A message of 1 to 4,224 bytes, cut into packets for this endpoint and its unit: where they are taken in one after the other, the
 -- request is the message.
 abbrev pub CutGathered : Type 0
 CutGathered =
     Every (λ h. (i : ℕ) → i ≤ 1 → (route : Route) (message m : List ℕ) → route .destination ≡ h .world .endpoint .eid → route .to ≡ true → 0 < length message
-    → length message ≤ 4224 → Arrives i h (cut 64 route message) m → m ≡ message)
+    → length message ≤ 4224 → Arrives i h (cut (unitOf (h .world)) route message) m → m ≡ message)

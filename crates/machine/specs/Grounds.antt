@@ -1,5 +1,5 @@
 -- "Receiving, in this order", flat: which number receiving answers, row by row in the document's order and words, from the packet's bytes, the
--- EID and what is seen of both slots. The proof: `grounds` (proofs/Grounds).
+-- EID, the unit and what is seen of both slots. The proof: `grounds` (proofs/Grounds).
 -- Assumes nothing.
 use Prim.Native.Nat.{ℕ, _+_, _/_, _%_}
 use mathlib.Core.Path.{_≡_}
@@ -13,7 +13,7 @@ use Rattle.nvme_mi.specs.Check.{checkRight}
 use Rattle.machine.specs.State.{World, storeAt}
 use Rattle.machine.specs.Receive.{received}
 use Rattle.machine.specs.Valid.{phased, Valid}
-use Rattle.machine.specs.History.{hasSom, sourceOf, messageTagOf, bytesFrom4, phaseAt, receivesFrom}
+use Rattle.machine.specs.History.{hasSom, sourceOf, messageTagOf, bytesFrom4, phaseAt, receivesFrom, unitOf}
 use Rattle.machine.specs.Numbers.{rightSizes}
 use Rattle.machine.specs.Demands.{isIdleNow}
 use Rattle.machine.specs.Types.{Assembly, NoResponse, Phase, Idle}
@@ -50,7 +50,7 @@ controlNumber p m =
 abbrev pub firstNumber : World → List ℕ → List ℕ → ℕ
 firstNumber w p m =
     if not (eqb (byteAt m 0) 0x84) then 15
-    else if not (hasEom p) && not (eqb (length m) 64) then 16
+    else if not (hasEom p) && not (eqb (length m) (unitOf w)) then 16
     else if hasEom p && ltb (length m) 8 then 17
     else if isSet (byteAt m 1) 7 then 15
     else if eqb (byteAt m 1 / 8 % 16) 0 then controlNumber p m
@@ -63,7 +63,7 @@ firstNumber w p m =
 abbrev pub joinNumber : World → List ℕ → List ℕ → ℕ → Assembly → ℕ
 joinNumber w p m i a =
     if not (eqb (sequenceOf p) ((a .sequence + 1) % 4)) then 22
-    else if not (hasEom p) && not (eqb (length m) 64) then 16
+    else if not (hasEom p) && not (eqb (length m) (unitOf w)) then 16
     else if ltb 4224 (a .length + length m) then 23
     else takenIn p (take (a .length) (storeAt w i) ++ m)
 
@@ -80,7 +80,7 @@ abbrev pub receiveNumber : World → List ℕ → ℕ
 receiveNumber w p =
     if not (rightSizes w) then 40
     else if ltb (length p) 5 then 10
-    else if ltb 68 (length p) then 11
+    else if ltb (unitOf w + 4) (length p) then 11
     else if not (eqb (byteAt p 0 % 16) 1) then 12
     else if not (eqb (byteAt p 1) (w .endpoint .eid)) then 13
     else if not (isSet (byteAt p 3) 3) then 14

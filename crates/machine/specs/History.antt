@@ -195,9 +195,17 @@ pub record History : Type 0 where
   -- counted polls
   pub counted : ℕ
 
+-- U of document 02: the unit of the state, which is the one that setup was given (`identity-kept`)
+abbrev pub unitOf : World → ℕ
+unitOf w = w .endpoint .unit
+
+-- "a buffer of at least 68 bytes", U + 4
+abbrev pub hasRoom : World → List ℕ → Bool
+hasRoom w buffer = leb (unitOf w + 4) (length buffer)
+
 -- "counting polls with a buffer of at least 68 bytes and no pause flag set"; "Pause flags are read just before the poll that is counted."
 abbrev pub counts : Call → World → Bool
-counts c w = ofCall (λ p. false) (λ buffer. leb 68 (length buffer) && (not (pausedAt w 0) && not (pausedAt w 1))) false false c
+counts c w = ofCall (λ p. false) (λ buffer. hasRoom w buffer && (not (pausedAt w 0) && not (pausedAt w 1))) false false c
 
 abbrev pub one? : Bool → ℕ
 one? b = if b then 1 else 0
@@ -220,11 +228,11 @@ run [] h = h
 run (c ∷ cs) h = run cs (next c h)
 
 -- "The list starts from a setup's state, whatever the setup answered, and any bytes in the stores"
-unfoldable pub start : ℕ → List ℕ → List ℕ → History
+unfoldable pub start : ℕ → ℕ → List ℕ → List ℕ → History
 unfolding begin
-start eid store0 store1 =
+start eid unit store0 store1 =
     record {
-      world = begin eid store0 store1;
+      world = begin eid unit store0 store1;
       trace = λ i. traceOf [] 0 0 [] 0 [] 0 0;
       counted = 0;
     }
@@ -266,9 +274,13 @@ cuts i c w = ofCall (λ p. isAbort i (w .endpoint .eid) p) (λ buffer. false) tr
 
 -- ---- packets left
 
--- "the response's length over 64, rounded up, less the slot's packets since it last entered Transmit"
+-- a length over U, rounded up
+abbrev pub overUnit : ℕ → ℕ → ℕ
+overUnit unit n = (n + (unit - 1)) / unit
+
+-- "the response's length over 64, rounded up, less the slot's packets since it last entered Transmit", with U for 64
 abbrev pub packetsLeft : ℕ → History → ℕ
-packetsLeft i h = (length (h .trace i .response) + 63) / 64 - h .trace i .packets
+packetsLeft i h = overUnit (unitOf (h .world)) (length (h .trace i .response)) - h .trace i .packets
 
 -- the call hands out slot i's last packet
 abbrev pub lastPacketOut : ℕ → Call → History → Bool

@@ -2,19 +2,20 @@
 -- it. Numbers and sizes are literal, so that the definitions that give an enum its number are held against them too. The proofs:
 -- `take-numbers`, `complete-numbers`, `timeout-numbers`, `poll-numbers`, `setup-numbers` (proofs/Numbers).
 -- Assumes nothing.
-use Prim.Native.Nat.{ℕ}
+use Prim.Native.Nat.{ℕ, _+_}
 use mathlib.Core.Path.{_≡_}
 use mathlib.Core.Bool.{Bool, true, false, not, _&&_, _||_}
 use mathlib.Core.List.{List, [], _∷_}
-use lib.Dec.{eqb, leb, ltb}
+use lib.Dec.{eqb, ltb}
 use lib.ListN.{length}
 use Rattle.lent.specs.Choice.{if_then_else_}
+use Rattle.mctp.specs.Setup.{setupNumber}
 use Rattle.machine.specs.State.{World, slotAt}
 use Rattle.machine.specs.Finish.{taken, takeSays, completed, timedOut, wasSetUp}
 use Rattle.machine.specs.Poll.{pollSays, polled}
 use Rattle.machine.specs.Valid.{phased, Valid}
 use Rattle.machine.specs.Calls.{poll, Event, number, given, part-read, handed-out, step}
-use Rattle.machine.specs.History.{phaseAt, pausedAt, isTransmit}
+use Rattle.machine.specs.History.{phaseAt, pausedAt, isTransmit, unitOf}
 use Rattle.machine.specs.Types.{Ticket, Taking, Untaken, Taken, Phase, Endpoint}
 
 -- ---- taking: 30 slot above 1; 31 not in Process, or its response is there; 33 taken already; else 0 and the slot's ticket
@@ -70,7 +71,7 @@ timeoutNumber e i =
 abbrev pub TimeoutNumbers : Type 0
 TimeoutNumbers = (e : Endpoint) (i : ℕ) → timedOut e i .answer ≡ timeoutNumber e i
 
--- ---- polling: 40 stores of another length; 36 buffer below 68 bytes; 1 where a control reply waits, or a slot is in Transmit and neither
+-- ---- polling: 40 stores of another length; 36 buffer below U + 4 bytes; 1 where a control reply waits, or a slot is in Transmit and neither
 -- pause flag is set; else 0
 
 abbrev pub isCommandReady : World → Bool
@@ -79,7 +80,7 @@ isCommandReady w = (isTransmit (phaseAt w 0) || isTransmit (phaseAt w 1)) && (no
 abbrev pub pollNumber : World → List ℕ → ℕ
 pollNumber w buffer =
     if not (rightSizes w) then 40
-    else if ltb (length buffer) 68 then 36
+    else if ltb (length buffer) (unitOf w + 4) then 36
     else if w .endpoint .«reply_waits» || isCommandReady w then 1
     else 0
 
@@ -93,12 +94,13 @@ lengthOut (handed-out s) = length s ∷ []
 abbrev pub PollNumbers : Type 0
 PollNumbers = (w : World) (buffer : List ℕ) → Valid (w .endpoint) → pollSays (polled w buffer .answer) ≡ (pollNumber w buffer, lengthOut (step (poll buffer) w .event))
 
--- ---- setup: 0 for EID 8 to 254, else 38, and the state beside that answer is the one for EID 8
+-- ---- setup: 38 EID not 8 to 254; 39 unit not 64 to 250; else 0 (`setupNumber`). The state beside 38 and 39 is the one for EID 8 and the unit 64.
 
-pub record SetUp (eid : ℕ) : Type 0 where
-  pub number-is : wasSetUp eid .answer ≡ (if leb 8 eid && leb eid 254 then 0 else 38)
-  pub eid-is : wasSetUp eid .endpoint .eid ≡ (if leb 8 eid && leb eid 254 then eid else 8)
-  pub state-is : wasSetUp eid .endpoint ≡ wasSetUp (if leb 8 eid && leb eid 254 then eid else 8) .endpoint
+pub record SetUp (eid unit : ℕ) : Type 0 where
+  pub number-is : wasSetUp eid unit .answer ≡ setupNumber eid unit
+  pub eid-is : wasSetUp eid unit .endpoint .eid ≡ (if eqb (setupNumber eid unit) 0 then eid else 8)
+  pub unit-is : wasSetUp eid unit .endpoint .unit ≡ (if eqb (setupNumber eid unit) 0 then unit else 64)
+  pub state-is : wasSetUp eid unit .endpoint ≡ wasSetUp (if eqb (setupNumber eid unit) 0 then eid else 8) (if eqb (setupNumber eid unit) 0 then unit else 64) .endpoint
 
 abbrev pub SetupNumbers : Type 0
-SetupNumbers = (eid : ℕ) → SetUp eid
+SetupNumbers = (eid unit : ℕ) → SetUp eid unit

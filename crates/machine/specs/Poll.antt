@@ -9,7 +9,7 @@ use Rattle.lent.specs.Choice.{if_then_else_}
 use Rattle.mctp.specs.Cut.{packets, packet}
 use Rattle.machine.specs.Answers.{nothing-to-send, packet-sent, short-buffer, wrong-stores}
 use Rattle.machine.specs.State.{World, outgoing, slotAt, storeAt, withSlot, withPhase, holding, replySent, packetSent}
-use Rattle.machine.specs.Wire.{unit, packet-room, routeTo, wrongStores}
+use Rattle.machine.specs.Wire.{packetRoom, routeTo, wrongStores}
 use Rattle.machine.specs.Types.{Outgoing, Phase, Idle, Receive, Process, Answered, Transmit, Slot, Endpoint, PollAnswer, Ready, Nothing, From}
 use Rattle.machine.specs.declared.PollAnswer.the-variants.{Refused, Nothing as Silent, Packet}
 
@@ -75,7 +75,7 @@ abbrev pub sent : List ℕ → Endpoint → List ℕ → Polled
 sent bytes e buffer = polledTo (Packet (length bytes)) e (bytes ++ drop (length bytes) buffer)
 
 abbrev pub controlPacket : Endpoint → List ℕ
-controlPacket e = packet unit (routeTo e (e .«reply_to») (e .«reply_tag»)) (e .reply) 0
+controlPacket e = packet (e .unit) (routeTo e (e .«reply_to») (e .«reply_tag»)) (e .reply) 0
 
 unfoldable pub sentControl : Endpoint → List ℕ → Polled
 sentControl e buffer = sent (controlPacket e) (replySent e) buffer
@@ -83,27 +83,27 @@ sentControl e buffer = sent (controlPacket e) (replySent e) buffer
 -- packet number `sent` of the response at the front of the slot's store
 abbrev pub commandPacket : World → ℕ → Outgoing → List ℕ
 commandPacket w i r =
-    packet unit (routeTo (w .endpoint) (r .response .requester) (r .response .tag)) (take (r .response .length) (storeAt w i)) (r .sent)
+    packet (w .endpoint .unit) (routeTo (w .endpoint) (r .response .requester) (r .response .tag)) (take (r .response .length) (storeAt w i)) (r .sent)
 
 -- the packet that goes next is the response's last
-abbrev pub isLast : Outgoing → Bool
-isLast r = eqb (r .sent + 1) (packets unit (r .response .length))
+abbrev pub isLast : ℕ → Outgoing → Bool
+isLast unit r = eqb (r .sent + 1) (packets unit (r .response .length))
 
 -- one more of its packets went
 abbrev pub advanced : Outgoing → Outgoing
 advanced r = outgoing (r .response) (r .sent + 1)
 
 -- "After its last packet a slot is Idle." It holds the response.
-abbrev pub afterPacket : Slot → Outgoing → Slot
-afterPacket s r =
-    if isLast r then holding s (r .response)
+abbrev pub afterPacket : ℕ → Slot → Outgoing → Slot
+afterPacket unit s r =
+    if isLast unit r then holding s (r .response)
     else withPhase s (Transmit (advanced r))
 
 -- slot i is then the one that last began
 unfoldable pub sentCommand : World → ℕ → Outgoing → List ℕ → Polled
 sentCommand w i r buffer =
     sent (commandPacket w i r)
-    (packetSent (withSlot (w .endpoint) i (afterPacket (slotAt (w .endpoint) i) r)) (otherSlot i))
+    (packetSent (withSlot (w .endpoint) i (afterPacket (w .endpoint .unit) (slotAt (w .endpoint) i) r)) (otherSlot i))
     buffer
 
 -- a control reply waits, and the last packet handed out was not control
@@ -124,5 +124,5 @@ unfoldable pub polled : World → List ℕ → Polled
 unfolding ready sentControl sentCommand
 polled w buffer =
     if wrongStores w then polledTo (Refused wrong-stores) (w .endpoint) buffer
-    else if ltb (length buffer) packet-room then polledTo (Refused short-buffer) (w .endpoint) buffer
+    else if ltb (length buffer) (packetRoom (w .endpoint)) then polledTo (Refused short-buffer) (w .endpoint) buffer
     else polledBy w buffer (ready (w .endpoint))

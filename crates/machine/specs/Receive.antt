@@ -21,7 +21,7 @@ use Rattle.opening.specs.declared.Joined.{Joined}
 use Rattle.opening.specs.declared.Joined.the-variants.{More, Wrong, Whole}
 use Rattle.machine.specs.Answers.{more-to-come, command-complete, control-done, slot-not-idle, wrong-stores}
 use Rattle.machine.specs.State.{World, Outcome, outcome, slotAt, storeAt, withStore, withEndpoint, withFlags, onSlot, onBoth, withPhase, withBusy, idled, isIdle}
-use Rattle.machine.specs.Wire.{unit, store-size, inward, wrongStores}
+use Rattle.machine.specs.Wire.{store-size, inward, wrongStores}
 use Rattle.machine.specs.Process.{entered}
 use Rattle.machine.specs.Control.{controlled}
 use Rattle.machine.specs.Types.{Assembly, Phase, Idle, Receive, Process, Answered, Transmit, Slot, Endpoint, Holder, Nowhere, At}
@@ -128,7 +128,7 @@ firstBy w h m Command = firstCommand w h (messageHeader m .csi) m
 
 unfoldable pub first : World → Header → List ℕ → Outcome
 unfolding refused controlled firstCommand opened
-first w h m = firstBy w h m (opened unit false h m)
+first w h m = firstBy w h m (opened (w .endpoint .unit) false h m)
 
 -- ---- SOM 0
 
@@ -142,7 +142,7 @@ laterAt w i a h payload refusal =
 abbrev pub laterBy : World → Header → List ℕ → Holder → Outcome
 laterBy w h payload Nowhere = refused w no-assembly
 laterBy w h payload (At i a) =
-    laterAt w i a h payload (joinRefusal unit store-size (a .sequence) (a .length) h (length payload))
+    laterAt w i a h payload (joinRefusal (w .endpoint .unit) store-size (a .sequence) (a .length) h (length payload))
 
 unfoldable pub later : World → Header → List ℕ → Outcome
 unfolding refused laterAt holder
@@ -160,4 +160,4 @@ unfoldable pub received : World → List ℕ → Outcome
 unfolding refused first later endAssembly
 received w packet =
     if wrongStores w then outcome wrong-stores w
-    else receivedBy w (payloadOf packet) (readHeader (w .endpoint .eid) unit inward packet)
+    else receivedBy w (payloadOf packet) (readHeader (w .endpoint .eid) (w .endpoint .unit) inward packet)

@@ -1,4 +1,4 @@
--- What a refusal leaves, for each number. "A refusal changes nothing but what is said here"; "Refusals 30 to 38 change nothing."
+-- What a refusal leaves, for each number. "A refusal changes nothing but what is said here"; "Refusals 30 to 38 change nothing", and 2026-04 adds 39.
 -- Last, the numbers that each call can answer. The proofs: `refused-packet`, `flag-column`, `wrong-stores-unchanged`, `refused-call` and `named`
 -- (proofs/Refusals).
 -- Assumes nothing.
@@ -87,7 +87,7 @@ pub data Leaves (w : World) (p : List ℕ) : ℕ → World → Type 0 where
 abbrev pub RefusedPacket : Type 0
 RefusedPacket = (w : World) (p : List ℕ) → Sound w → 3 ≤ received w p .answer → Leaves w p (received w p .answer) (received w p .world)
 
--- ---- 40, 30 to 38
+-- ---- 40, 30 to 39
 
 abbrev pub isLent : Call → Bool
 isLent (receive p) = true
@@ -102,9 +102,9 @@ isLent reset = false
 abbrev pub WrongStores : Type 0
 WrongStores = (c : Call) (w : World) → isLent c ≡ true → rightSizes w ≡ false → (step c w .event ≡ number 40) × (step c w .world ≡ w)
 
--- 30 to 38: nothing changes, whatever stores are lent
+-- 30 to 39: nothing changes, whatever stores are lent
 abbrev pub RefusedCall : Type 0
-RefusedCall = (c : Call) (w : World) (n : ℕ) → Valid (w .endpoint) → step c w .event ≡ number n → 30 ≤ n → n ≤ 38 → step c w .world ≡ w
+RefusedCall = (c : Call) (w : World) (n : ℕ) → Valid (w .endpoint) → step c w .event ≡ number n → 30 ≤ n → n ≤ 39 → step c w .world ≡ w
 
 -- ---- "each call ends with an answer named in document 01"
 

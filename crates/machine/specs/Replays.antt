@@ -2,7 +2,7 @@
 -- it. The words are written from the documents and borrow no test of the machine. The proofs: `held-is`, `held-moves`, `replay-sends`,
 -- `replay-arrives` (proofs/Replays).
 -- Assumes nothing.
-use Prim.Native.Nat.{ℕ, _+_, _/_, _%_, _≤_}
+use Prim.Native.Nat.{ℕ, _+_, _%_, _≤_}
 use mathlib.Core.Path.{_≡_}
 use mathlib.Core.Bool.{Bool, true, false, _&&_, _||_}
 use mathlib.Core.List.{List, []}
@@ -12,8 +12,8 @@ use Rattle.lent.specs.Choice.{if_then_else_}
 use Rattle.lent.specs.Bytes.{byteAt}
 use Rattle.machine.specs.State.{World, heldIn, slotAt, storeAt}
 use Rattle.machine.specs.Calls.{Call, receive, ofCall, Event, number, step}
-use Rattle.machine.specs.History.{History, bytesFrom4, phaseAt, isTransmit, isFor, byNumber, isPrimitive, cuts, next, packetsLeft, lastPacketOut}
-use Rattle.machine.specs.Demands.{Every, Within, fate}
+use Rattle.machine.specs.History.{History, bytesFrom4, phaseAt, isTransmit, isFor, byNumber, isPrimitive, cuts, unitOf, next, overUnit, packetsLeft, lastPacketOut}
+use Rattle.machine.specs.Demands.{Every, Within, fate, mostPolls}
 use Rattle.machine.specs.Refusals.{isCommand}
 use Rattle.machine.specs.Replies.{noCpsp, replyOf}
 use Rattle.machine.specs.Types.{Response, Held, NoResponse, Last}
@@ -79,7 +79,7 @@ pub record SentAgain (h : History) (i : ℕ) (p : List ℕ) : Type 0 where
   pub in-transmit : isTransmit (phaseAt (next (receive p) h .world) i) ≡ true
   pub none-went : next (receive p) h .trace i .packets ≡ 0
   pub none-paid : next (receive p) h .trace i .payloads ≡ []
-  pub all-left : packetsLeft i (next (receive p) h) ≡ (length (h .trace i .response) + 63) / 64
+  pub all-left : packetsLeft i (next (receive p) h) ≡ overUnit (unitOf (h .world)) (length (h .trace i .response))
   pub same-response : next (receive p) h .trace i .response ≡ h .trace i .response
   pub same-requester : next (receive p) h .trace i .requester ≡ h .trace i .requester
   pub same-tag : next (receive p) h .trace i .tag ≡ h .trace i .tag
@@ -90,8 +90,8 @@ pub record SentAgain (h : History) (i : ℕ) (p : List ℕ) : Type 0 where
 abbrev pub ReplaySends : Type 0
 ReplaySends = Every (λ h. (p : List ℕ) (i : ℕ) → i ≤ 1 → isReplay i (h .world .endpoint .eid) p ≡ true → (r : Response) → heldAt (h .world) i ≡ Last r → SentAgain h i p)
 
--- A REPLAYED RESPONSE IS NOT LOST. It goes out whole with at most 264 more polls counted, unless the slot is aborted or the endpoint reset.
+-- A REPLAYED RESPONSE IS NOT LOST. It goes out whole with at most `mostPolls` more polls counted, unless the slot is aborted or the endpoint reset.
 abbrev pub ReplayArrives : Type 0
 ReplayArrives =
     Every (λ h. (p : List ℕ) (i : ℕ) → i ≤ 1 → isReplay i (h .world .endpoint .eid) p ≡ true → (r : Response) → heldAt (h .world) i ≡ Last r → (ys : List Call)
-    → Within (h .counted + 264) i (h .trace i .response) (fate i ys (next (receive p) h)))
+    → Within (h .counted + mostPolls (unitOf (h .world))) i (h .trace i .response) (fate i ys (next (receive p) h)))

@@ -5,8 +5,7 @@ use Prim.Native.Nat.{ℕ, _+_, _/_, _%_, _≤_, _<_}
 use mathlib.Core.Path.{_≡_}
 use mathlib.Core.Bool.{Bool, true, false, not, _&&_, _||_}
 use mathlib.Core.List.{List, [], _∷_, _++_}
-use lib.Dec.{eqb, leb, ltb}
-use lib.ListN.{length}
+use lib.Dec.{eqb, ltb}
 use Rattle.lent.specs.Choice.{if_then_else_}
 use Rattle.lent.specs.Bytes.{byteAt, isSet}
 use Rattle.nvme_mi.specs.Check.{withCheck}
@@ -14,7 +13,7 @@ use Rattle.machine.specs.State.{World, slot, slotAt, heldIn}
 use Rattle.machine.specs.Receive.{received}
 use Rattle.machine.specs.Valid.{phased, Sound}
 use Rattle.machine.specs.Calls.{Call, receive, poll, reset, ofCall, Event, number, given, part-read, handed-out, Stepped, step}
-use Rattle.machine.specs.History.{sourceOf, messageTagOf, bytesFrom4, phaseAt, pausedAt, receivesFrom, isPacketOf, byNumber, one?, isControl}
+use Rattle.machine.specs.History.{sourceOf, messageTagOf, bytesFrom4, phaseAt, pausedAt, receivesFrom, isPacketOf, byNumber, hasRoom, one?, isControl}
 use Rattle.machine.specs.Demands.{Every, isIdleNow, replyPacket}
 use Rattle.machine.specs.Types.{Taking, Untaken, Taken, Held, NoResponse, Last, Phase, Idle, Transmit, Slot, Endpoint}
 
@@ -195,17 +194,17 @@ pub data ReplyFate : Type 0 where
   -- neither, and the list has ended; the polls with room so far, and the state then
   waiting : ℕ → Endpoint → ReplyFate
 
--- a poll with a buffer of at least 68 bytes, whatever the pause flags
-abbrev pub hasRoom : Call → Bool
-hasRoom = ofCall (λ p. false) (λ buffer. leb 68 (length buffer)) false false
+-- a poll with a buffer of at least U + 4 bytes, whatever the pause flags
+abbrev pub pollsWithRoom : Call → World → Bool
+pollsWithRoom c w = ofCall (λ p. false) (λ buffer. hasRoom w buffer) false false c
 
 unfoldable pub replyFate : ℕ → List Call → World → ReplyFate
 unfolding step
 replyFate n [] w = waiting n (w .endpoint)
 replyFate n (c ∷ cs) w =
     if replaces c (step c w .event) then replaced
-    else if isControlOut w (step c w) then sent (n + one? (hasRoom c)) (step c w .event)
-    else replyFate (n + one? (hasRoom c)) cs (step c w .world)
+    else if isControlOut w (step c w) then sent (n + one? (pollsWithRoom c w)) (step c w .event)
+    else replyFate (n + one? (pollsWithRoom c w)) cs (step c w .world)
 
 -- the promise for the reply of the state e
 abbrev pub GoesWithin : ℕ → Endpoint → ReplyFate → Type 0

@@ -10,7 +10,7 @@ use Rattle.lent.specs.Choice.{if_then_else_}
 use Rattle.mctp.specs.Cut.{packet}
 use Rattle.machine.specs.State.{slotAt}
 use Rattle.machine.specs.Calls.{Call, receive, complete, poll, number, handed-out, step}
-use Rattle.machine.specs.History.{History, phaseAt, isFor, requestWith, responseFor, fixedAtEntry, isPacketOf, run, start}
+use Rattle.machine.specs.History.{History, phaseAt, isFor, requestWith, responseFor, fixedAtEntry, isPacketOf, unitOf, run, start}
 use Rattle.machine.specs.Demands.{Every, isProcess, routeOf}
 use Rattle.machine.specs.Types.{Ticket}
 
@@ -44,9 +44,9 @@ pub data FixedBy (first : History) (i : ℕ) (xs : List Call) : Type 0 where
 -- tag; and that response was fixed at the slot's last entry, or by a completion of this list whose ticket is the slot's present one.
 abbrev pub NeverStale : Type 0
 NeverStale =
-    (eid : ℕ) (store0 store1 : List ℕ) → length store0 ≡ 4224 → length store1 ≡ 4224 → (xs : List Call) (i : ℕ) → i ≤ 1 → (buffer bytes : List ℕ)
-    → step (poll buffer) (run xs (start eid store0 store1) .world) .event ≡ handed-out bytes
-    → isPacketOf (phaseAt (run xs (start eid store0 store1) .world) i) (phaseAt (step (poll buffer) (run xs (start eid store0 store1) .world) .world) i) (handed-out bytes) ≡ true
-    → (run xs (start eid store0 store1) .trace i .response ≡ [] → ⊥)
-    × FixedBy (start eid store0 store1) i xs
-    × (bytes ≡ packet 64 (routeOf (run xs (start eid store0 store1)) i) (run xs (start eid store0 store1) .trace i .response) (run xs (start eid store0 store1) .trace i .packets))
+    (eid unit : ℕ) (store0 store1 : List ℕ) → length store0 ≡ 4224 → length store1 ≡ 4224 → (xs : List Call) (i : ℕ) → i ≤ 1 → (buffer bytes : List ℕ)
+    → step (poll buffer) (run xs (start eid unit store0 store1) .world) .event ≡ handed-out bytes
+    → isPacketOf (phaseAt (run xs (start eid unit store0 store1) .world) i) (phaseAt (step (poll buffer) (run xs (start eid unit store0 store1) .world) .world) i) (handed-out bytes) ≡ true
+    → (run xs (start eid unit store0 store1) .trace i .response ≡ [] → ⊥)
+    × FixedBy (start eid unit store0 store1) i xs
+    × (bytes ≡ packet (unitOf (run xs (start eid unit store0 store1) .world)) (routeOf (run xs (start eid unit store0 store1)) i) (run xs (start eid unit store0 store1) .trace i .response) (run xs (start eid unit store0 store1) .trace i .packets))

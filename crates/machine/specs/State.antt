@@ -69,10 +69,11 @@ settled paused r = if paused then Answered r else Transmit (outgoing r 0)
 
 -- ---- the endpoint
 
-abbrev pub endpoint : ℕ → List Slot → ℕ → List ℕ → Bool → ℕ → ℕ → ℕ → Bool → Endpoint
-endpoint eid slots flags reply waits to tag turn last =
+abbrev pub endpoint : ℕ → ℕ → List Slot → ℕ → List ℕ → Bool → ℕ → ℕ → ℕ → Bool → Endpoint
+endpoint eid unit slots flags reply waits to tag turn last =
     record {
       eid = eid;
+      unit = unit;
       slots = slots;
       flags = flags;
       reply = reply;
@@ -87,7 +88,7 @@ abbrev pub slotAt : Endpoint → ℕ → Slot
 slotAt e i = getD (e .slots) i (fresh (ticket 0))
 
 abbrev pub withSlots : Endpoint → List Slot → Endpoint
-withSlots e l = endpoint (e .eid) l (e .flags) (e .reply) (e .«reply_waits») (e .«reply_to») (e .«reply_tag») (e .turn) (e .«last_control»)
+withSlots e l = endpoint (e .eid) (e .unit) l (e .flags) (e .reply) (e .«reply_waits») (e .«reply_to») (e .«reply_tag») (e .turn) (e .«last_control»)
 
 -- another slot at a number, all else as it was
 abbrev pub withSlot : Endpoint → ℕ → Slot → Endpoint
@@ -98,19 +99,19 @@ abbrev pub onBoth : (Slot → Slot) → Endpoint → Endpoint
 onBoth f e = withSlots e (f (slotAt e 0) ∷ f (slotAt e 1) ∷ [])
 
 abbrev pub withFlags : Endpoint → ℕ → Endpoint
-withFlags e f = endpoint (e .eid) (e .slots) f (e .reply) (e .«reply_waits») (e .«reply_to») (e .«reply_tag») (e .turn) (e .«last_control»)
+withFlags e f = endpoint (e .eid) (e .unit) (e .slots) f (e .reply) (e .«reply_waits») (e .«reply_to») (e .«reply_tag») (e .turn) (e .«last_control»)
 
 -- a control reply waits, for this requester under this tag; a newer one replaces it whole
 abbrev pub withReply : Endpoint → List ℕ → ℕ → ℕ → Endpoint
-withReply e reply to tag = endpoint (e .eid) (e .slots) (e .flags) reply true to tag (e .turn) (e .«last_control»)
+withReply e reply to tag = endpoint (e .eid) (e .unit) (e .slots) (e .flags) reply true to tag (e .turn) (e .«last_control»)
 
 -- the control reply has gone
 abbrev pub replySent : Endpoint → Endpoint
-replySent e = endpoint (e .eid) (e .slots) (e .flags) (e .reply) false (e .«reply_to») (e .«reply_tag») (e .turn) true
+replySent e = endpoint (e .eid) (e .unit) (e .slots) (e .flags) (e .reply) false (e .«reply_to») (e .«reply_tag») (e .turn) true
 
 -- a command packet has gone; `turn` is the slot that goes first when none is begun
 abbrev pub packetSent : Endpoint → ℕ → Endpoint
-packetSent e turn = endpoint (e .eid) (e .slots) (e .flags) (e .reply) (e .«reply_waits») (e .«reply_to») (e .«reply_tag») turn false
+packetSent e turn = endpoint (e .eid) (e .unit) (e .slots) (e .flags) (e .reply) (e .«reply_waits») (e .«reply_to») (e .«reply_tag») turn false
 
 -- ---- the endpoint and both lent stores
 

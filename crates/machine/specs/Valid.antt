@@ -8,9 +8,10 @@ use mathlib.Core.Bool.{Bool, true, false, not, _&&_, _||_}
 use mathlib.Core.List.{List, [], _∷_}
 use lib.Dec.{eqb, leb, ltb}
 use lib.ListN.{length}
+use Rattle.mctp.specs.Setup.{first-eid, last-eid, least-unit, most-unit}
 use Rattle.nvme_mi.specs.Message.{smallest}
 use Rattle.machine.specs.State.{World, isIdle, heldIn}
-use Rattle.machine.specs.Wire.{unit, store-size}
+use Rattle.machine.specs.Wire.{store-size}
 use Rattle.machine.specs.Receive.{gathers}
 use Rattle.machine.specs.Poll.{otherSlot}
 use Rattle.machine.specs.Types.{Assembly, Request, Response, Outgoing, Held, NoResponse, Last, Phase, Idle, Receive, Process, Answered, Transmit, Slot, Endpoint}
@@ -36,17 +37,17 @@ phased i r p a t (Transmit x) = t x
 abbrev pub unpausedIdle : Slot → Bool
 unpausedIdle s = not (isIdle (s .phase) && s .paused)
 
--- a command that is being gathered has a whole unit at least, and fits its store
-abbrev pub gatheredFits : Phase → Bool
-gatheredFits = phased true (λ a. between unit store-size (a .length)) (λ r. true) (λ r. true) (λ r. true)
+-- a command that is being gathered has full payloads alone, one at least, and fits its store
+abbrev pub gatheredFits : ℕ → Phase → Bool
+gatheredFits unit = phased true (λ a. between unit store-size (a .length) && eqb (a .length % unit) 0) (λ r. true) (λ r. true) (λ r. true)
 
 -- not the same source and tag as an assembly in the other slot
 abbrev pub apart : Phase → Phase → Bool
 apart p q = phased true (λ b. not (gathers (b .source) (b .tag) p)) (λ r. true) (λ r. true) (λ r. true) q
 
 -- a response in Transmit has a packet left
-abbrev pub packetLeft : Phase → Bool
-packetLeft = phased true (λ a. true) (λ r. true) (λ r. true) (λ r. ltb (unit * r .sent) (r .response .length))
+abbrev pub packetLeft : ℕ → Phase → Bool
+packetLeft unit = phased true (λ a. true) (λ r. true) (λ r. true) (λ r. ltb (unit * r .sent) (r .response .length))
 
 -- what is held fits its store
 abbrev pub heldFits : Held → Bool
@@ -82,12 +83,13 @@ allOf (b ∷ bs) = b && allOf bs
 -- of a state with slots s and t
 abbrev pub clauses : Endpoint → Slot → Slot → List Bool
 clauses e s t =
-    between 8 254 (e .eid)
+    between first-eid last-eid (e .eid)
+    ∷ between least-unit most-unit (e .unit)
     ∷ leb (e .turn) 1
     ∷ (unpausedIdle s && unpausedIdle t)
-    ∷ (gatheredFits (s .phase) && gatheredFits (t .phase))
+    ∷ (gatheredFits (e .unit) (s .phase) && gatheredFits (e .unit) (t .phase))
     ∷ apart (s .phase) (t .phase)
-    ∷ (packetLeft (s .phase) && packetLeft (t .phase))
+    ∷ (packetLeft (e .unit) (s .phase) && packetLeft (e .unit) (t .phase))
     ∷ (messageFits (s .phase) && messageFits (t .phase))
     ∷ (waitsPaused s && waitsPaused t)
     ∷ (begunTurn (e .turn) 0 (s .phase) && begunTurn (e .turn) 1 (t .phase))
@@ -116,35 +118,37 @@ abbrev pub HeldFacts : Held → Type 0
 HeldFacts NoResponse = Unit {0}
 HeldFacts (Last r) = Fits r
 
--- what a slot's phase promises, with its pause flag
-abbrev pub PhaseFacts : Bool → Phase → Type 0
-PhaseFacts paused (Idle k) = (paused ≡ false) × HeldFacts k
-PhaseFacts paused (Receive a) = (unit ≤ a .length) × (a .length ≤ store-size)
-PhaseFacts paused (Process r) = (smallest ≤ r .length) × (r .length ≤ store-size)
-PhaseFacts paused (Answered r) = (paused ≡ true) × Fits r
-PhaseFacts paused (Transmit r) = (unit * r .sent < r .response .length) × Fits (r .response)
+-- what a slot's phase promises, with the endpoint's unit and the slot's pause flag
+abbrev pub PhaseFacts : ℕ → Bool → Phase → Type 0
+PhaseFacts unit paused (Idle k) = (paused ≡ false) × HeldFacts k
+PhaseFacts unit paused (Receive a) = (unit ≤ a .length) × (a .length ≤ store-size) × (a .length % unit ≡ 0)
+PhaseFacts unit paused (Process r) = (smallest ≤ r .length) × (r .length ≤ store-size)
+PhaseFacts unit paused (Answered r) = (paused ≡ true) × Fits r
+PhaseFacts unit paused (Transmit r) = (unit * r .sent < r .response .length) × Fits (r .response)
 
-pub record ValidSlot (turn i : ℕ) (s : Slot) : Type 0 where
-  pub phase-facts : PhaseFacts (s .paused) (s .phase)
+pub record ValidSlot (unit turn i : ℕ) (s : Slot) : Type 0 where
+  pub phase-facts : PhaseFacts unit (s .paused) (s .phase)
   pub begun-turn : isBegun (s .phase) ≡ true → turn ≡ otherSlot i
 
-pub data ValidSlots (turn : ℕ) : List Slot → Type 0 where
-  two : {s t : Slot} → ValidSlot turn 0 s → ValidSlot turn 1 t → apart (s .phase) (t .phase) ≡ true → ValidSlots turn (s ∷ t ∷ [])
+pub data ValidSlots (unit turn : ℕ) : List Slot → Type 0 where
+  two : {s t : Slot} → ValidSlot unit turn 0 s → ValidSlot unit turn 1 t → apart (s .phase) (t .phase) ≡ true → ValidSlots unit turn (s ∷ t ∷ [])
 
 pub record ValidFlags (f : ℕ) : Type 0 where
   pub low : f % 2 ^ 4 ≡ 0
   pub thirteen : f / 2 ^ 13 % 2 ≡ 0
   pub top : f / 2 ^ 15 ≡ 0
 
--- the EID, and the slot that goes first
-pub record ValidNumbers (eid turn : ℕ) : Type 0 where
-  pub eid-least : 8 ≤ eid
-  pub eid-most : eid ≤ 254
+-- the EID, the unit, and the slot that goes first
+pub record ValidNumbers (eid unit turn : ℕ) : Type 0 where
+  pub eid-least : first-eid ≤ eid
+  pub eid-most : eid ≤ last-eid
+  pub unit-least : least-unit ≤ unit
+  pub unit-most : unit ≤ most-unit
   pub turn-most : turn ≤ 1
 
 pub record Valid (e : Endpoint) : Type 0 where
-  pub numbers : ValidNumbers (e .eid) (e .turn)
-  pub slots-valid : ValidSlots (e .turn) (e .slots)
+  pub numbers : ValidNumbers (e .eid) (e .unit) (e .turn)
+  pub slots-valid : ValidSlots (e .unit) (e .turn) (e .slots)
   pub flags-valid : ValidFlags (e .flags)
   pub reply-twelve : length (e .reply) ≡ 12
 

@@ -1,7 +1,7 @@
 -- "Bytes on the wire": sizes, directions, and the fields of a control primitive. The packet header is defined in `mctp`, the message
 -- header and the check in `nvme_mi`.
 -- Assumes nothing.
-use Prim.Native.Nat.{ℕ}
+use Prim.Native.Nat.{ℕ, _+_}
 use mathlib.Core.Bool.{Bool, true, false, not, _&&_, _||_}
 use mathlib.Core.List.{List}
 use lib.Dec.{eqb}
@@ -11,10 +11,6 @@ use Rattle.mctp.specs.declared.Route.{Route}
 use Rattle.machine.specs.State.{World}
 use Rattle.machine.specs.Types.{Endpoint}
 
--- the largest payload of a packet
-abbrev pub unit : ℕ
-unit = 64
-
 -- each slot's store, and the longest message
 abbrev pub store-size : ℕ
 store-size = 4224
@@ -23,9 +19,9 @@ store-size = 4224
 abbrev pub response-place : ℕ
 response-place = 0
 
--- a buffer that takes every packet
-abbrev pub packet-room : ℕ
-packet-room = 68
+-- a buffer that takes every packet: four bytes of header, and a full payload
+abbrev pub packetRoom : Endpoint → ℕ
+packetRoom e = e .unit + 4
 
 -- TO of the packets that come in, and of those that go out
 abbrev pub inward : Bool

@@ -24,7 +24,11 @@ pub const CONTROL_DONE: u8 = 2;
 
 pub const SLOT_NOT_IDLE: u8 = 20;
 
-// ---- Taking, completing, timeout, reset, setup.
+// ---- Setup.
+pub use mctp::WRONG_EID;
+pub use mctp::WRONG_UNIT;
+
+// ---- Taking, completing, timeout, reset.
 pub const DONE: u8 = 0;
 
 pub const NO_SUCH_SLOT: u8 = 30;
@@ -42,8 +46,6 @@ pub const WRONG_BODY_SIZE: u8 = 35;
 
 // Not in Receive, or paused.
 pub const NOT_GATHERING: u8 = 37;
-
-pub const WRONG_EID: u8 = 38;
 
 // ---- Polling.
 pub const NOTHING_TO_SEND: u8 = 0;

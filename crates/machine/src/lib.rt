@@ -3,12 +3,8 @@ pub mod answers;
 pub mod flags;
 pub mod sizes;
 
+pub use mctp::FIRST_EID;
 use sizes::CONTROL_SIZE;
-
-// The EIDs that an endpoint may have.
-pub const FIRST_EID: u8 = 8;
-
-pub const LAST_EID: u8 = 254;
 
 // Document 01's ticket: the number of a command of its slot, modulo 2^32. It is a kind of number of its own, never mixed with a
 // slot number.
@@ -73,11 +69,12 @@ pub struct Slot {
     pub phase: Phase,
 }
 
-// The endpoint. `flags` has bits 4 to 12 and 14 of Get State at their places. `reply` waits for the requester `reply_to` under
-// `reply_tag` where `reply_waits` is set. `turn` is the slot that goes first where no response is begun. `last_control` says that the
-// last packet handed out was control.
+// The endpoint. `unit` is the largest payload of a packet; as a byte it keeps the state at 128 bytes, which are copied without a call. `flags` has
+// bits 4 to 12 and 14 of Get State at their places. `reply` waits for the requester `reply_to` under `reply_tag` where `reply_waits` is set. `turn`
+// is the slot that goes first where no response is begun. `last_control` says that the last packet handed out was control.
 pub struct Endpoint {
     pub eid: u8,
+    pub unit: u8,
     pub slots: [Slot; 2],
     pub flags: u16,
     pub reply: [u8; CONTROL_SIZE],

@@ -1,26 +1,66 @@
--- Laws of a message's packets: how many there are and which is the last, what each carries, and that each is read as it was cut.
+-- Laws of setup, and of a message's packets: how many there are and which is the last, what each carries, and that each is read as it was cut.
 -- Assumes nothing.
 use Prim.Native.Nat.{ℕ, min, zero, suc, _+_, _-_, _*_, _/_, _%_, _≤_, _<_}
 use native.Mathlib.Nat.{le-div-iff-mul-le, div-lt-iff-lt-mul, lt-div-mul-add, mod-lt, mul-zero}
 use native.Mathlib.Numerals.{add-one}
 use native.Mathlib.Omega.{arith}
-use mathlib.Core.Path.{_≡_, refl, sym}
+use mathlib.Core.Path.{_≡_, refl, sym, _∙_}
 use mathlib.Core.Logic.{_↔_}
-use mathlib.Core.Bool.{Bool, true, false, not, Bool·beq}
+use mathlib.Core.Bool.{Bool, true, false, not, _&&_, _||_, Bool·beq}
 use mathlib.Core.List.{List, [], _∷_, _++_}
 use lib.Dec.{eqb, leb, ltb, lit<}
 use lib.ListN.{length, take, length-take, length-drop}
-use lib.Seq.{take-add}
-use borrow.Author.Tests.{leb-true, eqb-true, ltb-false, le-leb, le-ltb, eq-eqb}
+use lib.Seq.{take-add, take-all}
+use borrow.Author.Tests.{ltb-true, leb-true, eqb-true, ltb-false, lt-leb, le-leb, le-ltb, eq-eqb}
 use Rattle.lent.specs.Choice.{if_then_else_}
 use Rattle.lent.specs.Bytes.{byteAt, isSet}
-use Rattle.lent.proofs.Choice.{if-second, differ}
+use Rattle.lent.proofs.Choice.{if-second, or-left, or-right, differ}
+use Rattle.mctp.specs.Setup.{first-eid, last-eid, least-unit, most-unit, setupRefusal, setupNumber}
 use Rattle.mctp.specs.Header.{bit, same, headerBytes, fields, readHeader, readSays, headerNumbers, too-short, too-long, wrong-version, not-ours, wrong-direction}
 use Rattle.mctp.specs.Cut.{packets, payload, packet}
 use Rattle.mctp.specs.Gather.{isCut, joinRefusal}
 use Rattle.mctp.specs.declared.Header.{Header}
 use Rattle.mctp.specs.declared.Route.{Route}
 use Rattle.mctp.specs.declared.Read.the-variants.{Refused, Packet}
+
+-- ---- setup
+
+-- outside of two bounds, as it is tested and as the document says it
+outside : (low high n : ℕ) → (ltb n low || ltb high n) ≡ not (leb low n && leb n high)
+outside low high n = by (ltb n low) refl (ltb high n) refl
+  where
+    by : (a : Bool) → ltb n low ≡ a → (b : Bool) → ltb high n ≡ b → (a || b) ≡ not (leb low n && leb n high)
+    by true e b f = rw (lt-leb low n (ltb-true n low e)) refl
+    by false e true f = rw (le-leb low n (ltb-false n low e), lt-leb n high (ltb-true high n f)) refl
+    by false e false f = rw (le-leb low n (ltb-false n low e), le-leb n high (ltb-false high n f)) refl
+
+pub setup-numbers : (eid unit : ℕ) → setupRefusal eid unit ≡ setupNumber eid unit
+unfolding setupRefusal
+setup-numbers eid unit = rw (outside 8 254 eid, outside 64 250 unit) refl
+
+-- what is known of an end that was set up
+pub record SetUpSo (eid unit : ℕ) : Type 0 where
+  pub eid-least : first-eid ≤ eid
+  pub eid-most : eid ≤ last-eid
+  pub unit-least : least-unit ≤ unit
+  pub unit-most : unit ≤ most-unit
+
+pub set-up-so : (eid unit : ℕ) → setupRefusal eid unit ≡ 0 → SetUpSo eid unit
+unfolding setupRefusal
+set-up-so eid unit e =
+    let a = if-second (ltb eid first-eid || ltb last-eid eid) (λ q. absurd (omega (arith, q))) e in
+    let b = if-second (ltb unit least-unit || ltb most-unit unit) (λ q. absurd (omega (arith, q))) (a .1) in
+    record {
+      eid-least = ltb-false eid first-eid (or-left (ltb eid first-eid) (ltb last-eid eid) (a .0));
+      eid-most = ltb-false last-eid eid (or-right (ltb eid first-eid) (ltb last-eid eid) (a .0));
+      unit-least = ltb-false unit least-unit (or-left (ltb unit least-unit) (ltb most-unit unit) (b .0));
+      unit-most = ltb-false most-unit unit (or-right (ltb unit least-unit) (ltb most-unit unit) (b .0));
+    }
+
+pub first-so : SetUpSo first-eid least-unit
+first-so = record { eid-least = omega arith; eid-most = omega arith; unit-least = omega arith; unit-most = omega arith }
+
+-- ---- bits
 
 -- the code's test on two bools
 pub same-beq : (a b : Bool) → same a b ≡ Bool·beq a b
@@ -76,6 +116,16 @@ pub payload-next : (unit : ℕ) (message : List ℕ) (k : ℕ) → take (unit * 
 payload-next unit message k =
     let e : unit * (k + 1) ≡ unit * k + unit = omega arith in
     rw (e, take-add (unit * k) unit message)
+
+-- a message that fits one payload is one packet: the first and the last
+pub one-packet : (unit : ℕ) (route : Route) (message : List ℕ) → 0 < length message → length message ≤ unit
+    → packet unit route message 0 ≡ headerBytes (route .destination) (route .source) true true 0 (route .to) (route .tag) ++ message
+unfolding packet
+one-packet unit route message some fits =
+    let inside : unit * 0 < length message = rw mul-zero some in
+    let last : eqb (0 + 1) (packets unit (length message)) ≡ true =
+    last-packet unit (length message) 0 (omega arith) inside ∙ le-leb (length message) (unit * 0 + unit) (rw mul-zero (omega arith)) in
+    rw (last, mul-zero, take-all unit message fits) refl
 
 abbrev pub payloads : ℕ → List ℕ → ℕ → List ℕ
 payloads unit message zero = []

@@ -1,6 +1,6 @@
 -- The packet header of document 01, "Bytes on the wire": byte 0 low four bits = version 1 (high four ignored, sent as zero); byte 1
 -- destination EID; byte 2 source EID; byte 3: bit 7 SOM, bit 6 EOM, bits 5:4 sequence, bit 3 TO, bits 2:0 tag. Then 1 to `unit`
--- payload bytes (64 in document 01).
+-- payload bytes.
 -- Assumes nothing.
 use Prim.Native.Nat.{ℕ, _+_, _*_, _/_, _%_}
 use mathlib.Core.Bool.{Bool, true, false, not}

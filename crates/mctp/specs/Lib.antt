@@ -1,3 +1,4 @@
+pub mod Setup
 pub mod Header
 pub mod Cut
 pub mod Gather

@@ -1,12 +1,27 @@
 // MCTP packets (DSP0236): the header read and written, a message cut into packets, packets joined to a message.
-// The unit, the largest payload of a packet, and the direction, bit TO, are arguments throughout.
+// The unit, the largest payload of a packet, and the direction, bit TO, are arguments throughout; what an end is set up with is tested here.
 ghost use mathlib.Core.Path.{_≡_};
 ghost use mathlib.Core.List.{_++_};
 ghost use Prim.Native.Nat.{min, _+_, _-_, _*_, _≤_, _<_};
 ghost use lib.ListN.{length, drop};
+ghost use Rattle.mctp.specs.Setup.{setupRefusal};
 ghost use Rattle.mctp.specs.Header.{readHeader, readSays, headerNumbers, headerBytes, bit as Header·bit};
 ghost use Rattle.mctp.specs.Cut.{packets, packet};
 ghost use Rattle.mctp.specs.Gather.{isCut, joinRefusal};
+
+// The EIDs and the transmission units that an end may have: a unit is the largest payload of a packet.
+pub const FIRST_EID: u8 = 8;
+
+pub const LAST_EID: u8 = 254;
+
+pub const LEAST_UNIT: usize = 64;
+
+pub const MOST_UNIT: usize = 250;
+
+// Answers to a setup, in the order of the tests.
+pub const WRONG_EID: u8 = 38;
+
+pub const WRONG_UNIT: u8 = 39;
 
 // Answers to a packet by its header, in the order of the tests.
 pub const TOO_SHORT: u8 = 10;
@@ -61,6 +76,19 @@ pub struct Route {
     pub source: u8,
     pub to: bool,
     pub tag: u8,
+}
+
+// What the setup of either end refuses: the EID, or the unit.
+pub fn setup_refusal(eid: u8, unit: usize) -> u8
+    ensures { λ r. ⌜ r ≡ setupRefusal eid unit ⌝ }
+{
+    if eid < FIRST_EID || eid > LAST_EID {
+        return WRONG_EID;
+    }
+    if unit < LEAST_UNIT || unit > MOST_UNIT {
+        return WRONG_UNIT;
+    }
+    NO_REFUSAL
 }
 
 // Reads the header of a packet for the endpoint `eid`, that carries at most `unit` bytes and whose bit TO is `to`.

@@ -13,7 +13,6 @@ use machine::Request;
 use machine::Response;
 use machine::Slot;
 use machine::Taking;
-use machine::sizes::UNIT;
 
 fn flag(b: bool) -> u64 {
     if b { 1 } else { 0 }
@@ -30,8 +29,8 @@ fn three(on: bool, word: &[u8], a: u64, b: u64, c: u64) -> bool {
 }
 
 // The EID, and the largest payload.
-fn wire_words(on: bool, eid: u8) -> bool {
-    field(field(on, b"eid=", byte(eid)), b" unit=", UNIT as u64)
+fn wire_words(on: bool, eid: u8, unit: usize) -> bool {
+    field(field(on, b"eid=", byte(eid)), b" unit=", unit as u64)
 }
 
 // The check of a store's lent bytes.
@@ -106,8 +105,8 @@ fn reply_words(on: bool, waits: bool, to: u8, tag: u8, reply: &[u8]) -> bool {
     hex(say(on, b":"), reply)
 }
 
-fn number_words(on: bool, eid: u8, flags: u16, turn: usize, last_control: bool) -> bool {
-    let on = wire_words(on, eid);
+fn number_words(on: bool, eid: u8, unit: u8, flags: u16, turn: usize, last_control: bool) -> bool {
+    let on = wire_words(on, eid, unit as usize);
     let on = hex_number(say(on, b" flags="), flags as u64, 4);
     let on = field(on, b" turn=", turn as u64);
     field(on, b" last=", flag(last_control))
@@ -118,6 +117,7 @@ pub(crate) fn look(on: bool, endpoint: Endpoint, store0: &[u8], store1: &[u8]) -
     let on = number_words(
         on,
         endpoint.eid,
+        endpoint.unit,
         endpoint.flags,
         endpoint.turn,
         endpoint.last_control,
@@ -153,6 +153,6 @@ fn awaiting_words(on: bool, awaiting: Awaiting) -> bool {
 // The requester's state, and what is lent beside it.
 pub(crate) fn requester_look(on: bool, requester: Requester, store: &[u8]) -> bool {
     let awaiting = requester.awaiting;
-    let on = awaiting_words(wire_words(on, requester.eid), awaiting);
+    let on = awaiting_words(wire_words(on, requester.eid, requester.unit), awaiting);
     check_words(on, b" check=", store)
 }

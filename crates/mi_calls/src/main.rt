@@ -18,6 +18,7 @@ ghost use Rattle.mi_calls.specs.Sizes.{leastSize};
 use controller::Requester;
 use line::say;
 use machine::Endpoint;
+use machine::sizes::LEAST_UNIT;
 use machine::sizes::STORE_SIZE;
 use record::called;
 use requester_record::requester_called;
@@ -233,9 +234,9 @@ fn main() {
     let mut store1 = [0u8; MEMORY];
     let mut store = [0u8; MEMORY];
     let mut space = io::large_buffer();
-    let started = endpoint::setup(EID);
+    let started = endpoint::setup(EID, LEAST_UNIT);
     let endpoint = started.endpoint;
-    let begun = requester::setup(EID);
+    let begun = requester::setup(EID, LEAST_UNIT);
     let requester = begun.requester;
     let mut session = Session {
         endpoint,

@@ -23,6 +23,7 @@ use crate::tags::SETUP;
 use crate::tags::TAKE;
 use crate::tags::TIMEOUT;
 use crate::words::half;
+use crate::words::unit_of;
 use crate::words::word;
 use machine::Done;
 use machine::Endpoint;
@@ -107,7 +108,7 @@ fn numbered(endpoint: Endpoint, store0: &mut [u8], store1: &mut [u8], tag: u8, b
     ensures { λ r. ⌜ Valid (r .endpoint) ⌝ }
 {
     if tag == SETUP {
-        return endpoint::setup(body[0]);
+        return endpoint::setup(body[0], unit_of(body));
     }
     if tag == RECEIVE {
         return endpoint::receive(endpoint, store0, store1, body);

@@ -17,6 +17,7 @@ use crate::tags::REQUESTER_PRIMITIVE;
 use crate::tags::REQUESTER_RECEIVE;
 use crate::tags::REQUESTER_SETUP;
 use crate::words::half;
+use crate::words::unit_of;
 use crate::words::word;
 use controller::Done;
 use controller::Primitive;
@@ -43,7 +44,7 @@ fn send_words(buffer: &[u8], answer: SendAnswer) -> bool
 
 // A command is cut: destination, tag, the buffer's length, the message.
 fn cut_words(requester: Requester, body: &[u8]) -> bool
-    requires { ⌜ 4 ≤ length (now body) ⌝ }
+    requires { ⌜ Valid requester × (4 ≤ length (now body)) ⌝ }
 {
     let mut space = blank_buffer();
     let n = half(body, 2);
@@ -66,7 +67,7 @@ fn primitive_of(body: &[u8]) -> Primitive
 
 // A control primitive is built: destination, message tag, the primitive, the buffer's length.
 fn primitive_words(requester: Requester, body: &[u8]) -> bool
-    requires { ⌜ 12 ≤ length (now body) ⌝ }
+    requires { ⌜ Valid requester × (12 ≤ length (now body)) ⌝ }
 {
     let mut space = blank_buffer();
     let n = half(body, 10);
@@ -121,7 +122,7 @@ pub(crate) fn requester_called(
     ensures { λ r. ⌜ Valid (r .requester) ⌝ }
 {
     if tag == REQUESTER_SETUP {
-        return number_step(requester::setup(body[0]));
+        return number_step(requester::setup(body[0], unit_of(body)));
     }
     if tag == REQUESTER_AWAIT {
         return number_step(requester::await_response(requester, body[0], body[1]));

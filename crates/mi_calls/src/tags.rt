@@ -77,7 +77,7 @@ fn least_size(tag: u8) -> usize
 // The most; for an unknown tag fewer than the fewest.
 fn most_size(tag: u8) -> usize {
     match tag {
-        SETUP => 1,
+        SETUP => 3,
         STORES => 4,
         RECEIVE => LONGEST,
         TAKE => 4,
@@ -85,7 +85,7 @@ fn most_size(tag: u8) -> usize {
         COMPLETE => LONGEST,
         POLL => 2,
         TIMEOUT => 4,
-        REQUESTER_SETUP => 1,
+        REQUESTER_SETUP => 3,
         REQUESTER_STORE => 2,
         REQUESTER_AWAIT => 2,
         REQUESTER_CUT => LONGEST,
@@ -95,9 +95,24 @@ fn most_size(tag: u8) -> usize {
     }
 }
 
+// A length between the two.
+fn is_sized(tag: u8, n: usize) -> bool
+    ensures { λ r. ⌜ (r ≡ true → leastSize tag ≤ n) ⌝ }
+{
+    least_size(tag) <= n && n <= most_size(tag)
+}
+
+// A setup with one byte of its unit: the unit has two bytes, or none.
+fn is_half_setup(tag: u8, n: usize) -> bool {
+    n == 2 && (tag == SETUP || tag == REQUESTER_SETUP)
+}
+
 // A record with this tag may have this length.
 pub(crate) fn is_record(tag: u8, n: usize) -> bool
     ensures { λ r. ⌜ (r ≡ true → leastSize tag ≤ n) ⌝ }
 {
-    least_size(tag) <= n && n <= most_size(tag)
+    if is_half_setup(tag, n) {
+        return false;
+    }
+    is_sized(tag, n)
 }

@@ -8,7 +8,7 @@ use lib.Dec.{ltb}
 use lib.ListN.{length, drop, length-append, length-drop}
 use Rattle.lent.proofs.Choice.{if-ind}
 use Rattle.machine.specs.State.{World}
-use Rattle.machine.specs.Wire.{wrongStores, packet-room}
+use Rattle.machine.specs.Wire.{wrongStores, packetRoom}
 use Rattle.machine.specs.Poll.{Polled, polled, controlPacket, commandPacket, polledBy, ready, replyFirst, sentControl, sentCommand}
 use Rattle.machine.specs.declared.PollAnswer.{PollAnswer}
 use Rattle.machine.specs.declared.Ready.{Ready}
@@ -30,7 +30,7 @@ sent-fits bytes buffer e = omega (arith, simp (length-append, length-drop) at e)
 polled-fits : (w : World) (buffer : List ℕ) → PollFits (length buffer) (polled w buffer)
 unfolding polled sentControl sentCommand
 polled-fits w buffer =
-    if-ind P (wrongStores w) (λ _. tt) (λ _. if-ind P (ltb (length buffer) packet-room) (λ _. tt) (λ _. by (ready (w .endpoint))))
+    if-ind P (wrongStores w) (λ _. tt) (λ _. if-ind P (ltb (length buffer) (packetRoom (w .endpoint))) (λ _. tt) (λ _. by (ready (w .endpoint))))
   where
     P : Polled → Type 0
     P = PollFits (length buffer)

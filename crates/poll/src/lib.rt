@@ -3,7 +3,7 @@ ghost use mathlib.Core.Path.{_≡_};
 ghost use Prim.Native.Nat.{_≤_};
 ghost use lib.ListN.{length};
 ghost use Rattle.machine.specs.State.{world};
-ghost use Rattle.machine.specs.Wire.{store-size, packet-room};
+ghost use Rattle.machine.specs.Wire.{store-size, packetRoom};
 ghost use Rattle.machine.specs.Poll.{polledTo, pollSays, sendingOr, begunOr, polledBy, polled, chosen as Poll·chosen, ready as Poll·ready};
 ghost use Rattle.machine.specs.Numbers.{pollNumber};
 ghost use Rattle.machine.specs.Valid.{Valid};
@@ -13,7 +13,7 @@ use machine::PollAnswer;
 use machine::PollDone;
 use machine::Ready;
 use machine::answers;
-use machine::sizes::PACKET_ROOM;
+use machine::sizes::HEADER_SIZE;
 use poll_send::sent_command;
 use poll_send::sent_control;
 use slots::other_slot;
@@ -85,7 +85,7 @@ fn polled_by(
     next: Ready,
 ) -> PollDone
     requires { ⌜ Valid endpoint × (next ≡ Poll·ready endpoint) ⌝ }
-    requires { ⌜ (length (now store0) ≡ store-size) × (length (now store1) ≡ store-size) × (packet-room ≤ length (now buffer)) ⌝ }
+    requires { ⌜ (length (now store0) ≡ store-size) × (length (now store1) ≡ store-size) × (packetRoom endpoint ≤ length (now buffer)) ⌝ }
     ensures { λ r. ⌜ polledTo (r .answer) (r .endpoint) (now (buffer .exit)) ≡ polledBy (world endpoint (now (store0 .entry)) (now (store1 .entry))) (now (buffer .entry)) next ⌝ }
 {
     let Ready::From(slot, outgoing) = next else {
@@ -103,7 +103,7 @@ fn polled_by(
     sent_command(endpoint, store0, store1, slot, outgoing, buffer)
 }
 
-// Hands out the next packet, if there is one. 40: a store of another length; 36: the buffer is too short.
+// Hands out the next packet, if there is one. 40: a store of another length; 36: the buffer is below the unit and four bytes.
 pub fn poll(endpoint: Endpoint, store0: &[u8], store1: &[u8], buffer: &mut [u8]) -> PollDone
     requires { ⌜ Valid endpoint ⌝ }
     ensures { λ r. ⌜ polledTo (r .answer) (r .endpoint) (now (buffer .exit)) ≡ polled (world endpoint (now (store0 .entry)) (now (store1 .entry))) (now (buffer .entry)) ⌝ }
@@ -116,7 +116,7 @@ pub fn poll(endpoint: Endpoint, store0: &[u8], store1: &[u8], buffer: &mut [u8])
             endpoint,
         };
     }
-    if buffer.len() < PACKET_ROOM {
+    if buffer.len() < endpoint.unit as usize + HEADER_SIZE {
         return PollDone {
             answer: PollAnswer::Refused(answers::SHORT_BUFFER),
             endpoint,

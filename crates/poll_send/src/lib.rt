@@ -3,7 +3,9 @@ ghost use mathlib.Core.Path.{_≡_};
 ghost use Prim.Native.Nat.{_*_, _≤_, _<_};
 ghost use lib.ListN.{length};
 ghost use Rattle.machine.specs.State.{world};
-ghost use Rattle.machine.specs.Wire.{unit, store-size, packet-room, routeTo};
+ghost use Rattle.mctp.specs.Setup.{most-unit};
+ghost use Rattle.machine.specs.Wire.{store-size, packetRoom, routeTo};
+ghost use Rattle.machine.specs.Valid.{Valid};
 ghost use Rattle.machine.specs.Poll.{polledTo, afterPacket, sentControl, sentCommand};
 use machine::Endpoint;
 use machine::Outgoing;
@@ -11,7 +13,6 @@ use machine::Phase;
 use machine::PollAnswer;
 use machine::PollDone;
 use machine::Slot;
-use machine::sizes::UNIT;
 use mctp::Route;
 use slots::holding;
 use slots::other_slot;
@@ -29,11 +30,12 @@ fn route_to(endpoint: Endpoint, requester: u8, tag: u8) -> Route
 }
 
 // A slot after another packet of its response: Idle if that was the last, and it holds the response.
-fn after_packet(slot: Slot, outgoing: Outgoing) -> Slot
+fn after_packet(unit: usize, slot: Slot, outgoing: Outgoing) -> Slot
+    requires { ⌜ (0 < unit) × (unit ≤ most-unit) ⌝ }
     requires { ⌜ (unit * outgoing .sent < outgoing .response .length) × (outgoing .response .length ≤ store-size) ⌝ }
-    ensures { λ r. ⌜ r ≡ afterPacket slot outgoing ⌝ }
+    ensures { λ r. ⌜ r ≡ afterPacket unit slot outgoing ⌝ }
 {
-    if outgoing.response.length <= UNIT * outgoing.sent + UNIT {
+    if outgoing.response.length <= unit * outgoing.sent + unit {
         let response = outgoing.response;
         return holding(slot, response);
     }
@@ -46,12 +48,12 @@ fn after_packet(slot: Slot, outgoing: Outgoing) -> Slot
 
 // Hands out the control reply that waits.
 pub fn sent_control(endpoint: Endpoint, buffer: &mut [u8]) -> PollDone
-    requires { ⌜ packet-room ≤ length (now buffer) ⌝ }
+    requires { ⌜ Valid endpoint × (packetRoom endpoint ≤ length (now buffer)) ⌝ }
     ensures { λ r. ⌜ polledTo (r .answer) (r .endpoint) (now (buffer .exit)) ≡ sentControl endpoint (now (buffer .entry)) ⌝ }
 {
     let route = route_to(endpoint, endpoint.reply_to, endpoint.reply_tag);
     let reply = endpoint.reply;
-    let n = mctp::write_packet(UNIT, route, &reply, 0, buffer);
+    let n = mctp::write_packet(endpoint.unit as usize, route, &reply, 0, buffer);
     PollDone {
         answer: PollAnswer::Packet(n),
         endpoint: Endpoint {
@@ -71,16 +73,18 @@ fn sent_from(
     outgoing: Outgoing,
     buffer: &mut [u8],
 ) -> PollDone
-    requires { ⌜ (slot < 2) × (unit * outgoing .sent < outgoing .response .length) × (outgoing .response .length ≤ store-size) ⌝ }
-    requires { ⌜ (length (now store) ≡ store-size) × (packet-room ≤ length (now buffer)) ⌝ }
+    requires { ⌜ (0 < endpoint .unit) × (endpoint .unit ≤ most-unit) ⌝ }
+    requires { ⌜ (slot < 2) × (endpoint .unit * outgoing .sent < outgoing .response .length) × (outgoing .response .length ≤ store-size) ⌝ }
+    requires { ⌜ (length (now store) ≡ store-size) × (packetRoom endpoint ≤ length (now buffer)) ⌝ }
     ensures { λ r. ⌜ polledTo (r .answer) (r .endpoint) (now (buffer .exit)) ≡ sentCommand (world endpoint (now (store .entry)) (now (store .entry))) slot outgoing (now (buffer .entry)) ⌝ }
 {
+    let unit = endpoint.unit as usize;
     let response = outgoing.response;
     let route = route_to(endpoint, response.requester, response.tag);
     let length = response.length;
-    let n = mctp::write_packet(UNIT, route, &store[..length], outgoing.sent, buffer);
+    let n = mctp::write_packet(unit, route, &store[..length], outgoing.sent, buffer);
     let mut anew = endpoint;
-    anew.slots[slot] = after_packet(endpoint.slots[slot], outgoing);
+    anew.slots[slot] = after_packet(unit, endpoint.slots[slot], outgoing);
     anew.turn = other_slot(slot);
     anew.last_control = false;
     PollDone {
@@ -98,8 +102,9 @@ pub fn sent_command(
     outgoing: Outgoing,
     buffer: &mut [u8],
 ) -> PollDone
-    requires { ⌜ (slot < 2) × (unit * outgoing .sent < outgoing .response .length) × (outgoing .response .length ≤ store-size) ⌝ }
-    requires { ⌜ (length (now store0) ≡ store-size) × (length (now store1) ≡ store-size) × (packet-room ≤ length (now buffer)) ⌝ }
+    requires { ⌜ (0 < endpoint .unit) × (endpoint .unit ≤ most-unit) ⌝ }
+    requires { ⌜ (slot < 2) × (endpoint .unit * outgoing .sent < outgoing .response .length) × (outgoing .response .length ≤ store-size) ⌝ }
+    requires { ⌜ (length (now store0) ≡ store-size) × (length (now store1) ≡ store-size) × (packetRoom endpoint ≤ length (now buffer)) ⌝ }
     ensures { λ r. ⌜ polledTo (r .answer) (r .endpoint) (now (buffer .exit)) ≡ sentCommand (world endpoint (now (store0 .entry)) (now (store1 .entry))) slot outgoing (now (buffer .entry)) ⌝ }
 {
     if slot == 0 {

@@ -4,13 +4,12 @@ ghost use mathlib.Core.List.{List};
 ghost use Prim.Native.Nat.{ℕ, _≤_, _<_};
 ghost use lib.ListN.{length};
 ghost use Rattle.machine.specs.State.{world, outcome};
-ghost use Rattle.machine.specs.Wire.{unit, store-size};
+ghost use Rattle.machine.specs.Wire.{store-size};
 ghost use Rattle.machine.specs.Valid.{Valid};
 ghost use Rattle.machine.specs.Receive.{first as Receive·first, received};
 use machine::Done;
 use machine::Endpoint;
 use machine::answers;
-use machine::sizes::UNIT;
 use mctp::Header;
 use mctp::Read;
 use opening::First;
@@ -30,10 +29,10 @@ fn first(
     header: Header,
     message: &[u8],
 ) -> Done
-    requires { ⌜ (length (now store0) ≡ store-size) × (length (now store1) ≡ store-size) × (1 ≤ length (now message)) × (length (now message) ≤ unit) ⌝ }
+    requires { ⌜ (length (now store0) ≡ store-size) × (length (now store1) ≡ store-size) × (1 ≤ length (now message)) × (length (now message) ≤ store-size) × (8 ≤ endpoint .unit) ⌝ }
     ensures { λ r. ⌜ outcome (r .answer) (world (r .endpoint) (now (store0 .exit)) (now (store1 .exit))) ≡ Receive·first (world endpoint (now (store0 .entry)) (now (store1 .entry))) header (now (message .entry)) ⌝ }
 {
-    let opened = opening::opened(UNIT, false, header, message);
+    let opened = opening::opened(endpoint.unit as usize, false, header, message);
     match opened {
         First::Refused(n) => refused(endpoint, n),
         First::Control => {
@@ -60,7 +59,7 @@ pub fn receive(endpoint: Endpoint, store0: &mut [u8], store1: &mut [u8], packet:
     if wrong_stores(store0.len(), store1.len()) {
         return ended(answers::WRONG_STORES, endpoint);
     }
-    let read = mctp::read_header(endpoint.eid, UNIT, true, packet);
+    let read = mctp::read_header(endpoint.eid, endpoint.unit as usize, true, packet);
     let Read::Packet(header) = read else {
         return refused(endpoint, mctp::refusal_of(read));
     };

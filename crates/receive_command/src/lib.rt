@@ -3,7 +3,7 @@ ghost use mathlib.Core.Path.{_≡_};
 ghost use Prim.Native.Nat.{_+_, _≤_, _<_};
 ghost use lib.ListN.{length};
 ghost use Rattle.machine.specs.State.{world, outcome};
-ghost use Rattle.machine.specs.Wire.{unit, store-size};
+ghost use Rattle.machine.specs.Wire.{store-size};
 ghost use Rattle.machine.specs.Valid.{Valid};
 ghost use Rattle.machine.specs.Receive.{firstCommand, laterAt, later as Receive·later};
 use machine::Assembly;
@@ -12,7 +12,6 @@ use machine::Endpoint;
 use machine::Holder;
 use machine::answers::NO_ASSEMBLY;
 use machine::sizes::STORE_SIZE;
-use machine::sizes::UNIT;
 use mctp::Header;
 use mctp::NO_REFUSAL;
 use receive_assembly::holder;
@@ -32,7 +31,7 @@ pub fn first_command(
     slot: usize,
     message: &[u8],
 ) -> Done
-    requires { ⌜ (length (now store0) ≡ store-size) × (length (now store1) ≡ store-size) × (slot < 2) × (length (now message) ≤ unit) ⌝ }
+    requires { ⌜ (length (now store0) ≡ store-size) × (length (now store1) ≡ store-size) × (slot < 2) × (length (now message) ≤ store-size) ⌝ }
     ensures { λ r. ⌜ outcome (r .answer) (world (r .endpoint) (now (store0 .exit)) (now (store1 .exit))) ≡ firstCommand (world endpoint (now (store0 .entry)) (now (store1 .entry))) header slot (now (message .entry)) ⌝ }
 {
     if !is_idle(phase_of(endpoint, slot)) {
@@ -78,7 +77,7 @@ pub fn later(
         return refused(endpoint, NO_ASSEMBLY);
     };
     let refusal = mctp::join_refusal(
-        UNIT,
+        endpoint.unit as usize,
         STORE_SIZE,
         assembly.sequence,
         assembly.length,

@@ -10,21 +10,24 @@ use controller::LAST_TAG;
 use controller::Requester;
 use controller::answers;
 use machine::FIRST_EID;
-use machine::LAST_EID;
+use machine::sizes::LEAST_UNIT;
 pub use requester_receive::receive;
 pub use requester_send::cut;
 pub use requester_send::primitive;
 
-// A new requester with this EID, from 8 to 254, which awaits nothing. Else 38, and the requester has EID 8.
-pub fn setup(eid: u8) -> Done
-    ensures { λ r. ⌜ r ≡ wasSetUp eid ⌝ }
+// A new requester with this EID, from 8 to 254, else 38, and this unit, from 64 to 250, else 39. It awaits nothing. Beside 38 and 39 it has EID 8 and
+// the unit 64.
+pub fn setup(eid: u8, unit: usize) -> Done
+    ensures { λ r. ⌜ r ≡ wasSetUp eid unit ⌝ }
     ensures { λ r. ⌜ Valid (r .requester) ⌝ }
 {
-    if eid < FIRST_EID || eid > LAST_EID {
+    let refusal = mctp::setup_refusal(eid, unit);
+    if refusal != answers::DONE {
         return Done {
-            answer: answers::WRONG_EID,
+            answer: refusal,
             requester: Requester {
                 eid: FIRST_EID,
+                unit: LEAST_UNIT,
                 awaiting: Awaiting::Nothing,
             },
         };
@@ -33,6 +36,7 @@ pub fn setup(eid: u8) -> Done
         answer: answers::DONE,
         requester: Requester {
             eid,
+            unit,
             awaiting: Awaiting::Nothing,
         },
     }

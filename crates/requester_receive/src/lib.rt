@@ -4,7 +4,7 @@ ghost use mathlib.Core.List.{List};
 ghost use Prim.Native.Nat.{ℕ, _+_, _≤_};
 ghost use lib.ListN.{length, take};
 ghost use Rattle.opening.specs.Opening.{joinedIn};
-ghost use Rattle.machine.specs.Wire.{unit, store-size};
+ghost use Rattle.machine.specs.Wire.{store-size};
 ghost use Rattle.controller.specs.State.{awaits as State·awaits, unassembled as State·unassembled, side, outcome, Valid};
 ghost use Rattle.controller.specs.Receive.{receiveSays, refused as Receive·refused, dropped as Receive·dropped, restarted as Receive·restarted, replied as Receive·replied, landed as Receive·landed, gathered as Receive·gathered, first as Receive·first, later as Receive·later, received};
 ghost use Rattle.controller.specs.Grounds.{receiveNumbers};
@@ -16,7 +16,6 @@ use controller::Requester;
 use controller::answers;
 use machine::Assembly;
 use machine::sizes::STORE_SIZE;
-use machine::sizes::UNIT;
 use mctp::Header;
 use mctp::NO_REFUSAL;
 use mctp::Read;
@@ -145,12 +144,12 @@ fn replied(requester: Requester, store: &mut [u8], message: &[u8]) -> ReceiveDon
 
 // SOM 1. An assembly with this source and tag has ended.
 fn first(requester: Requester, store: &mut [u8], header: Header, message: &[u8]) -> ReceiveDone
-    requires { ⌜ (length (now store) ≡ store-size) × (1 ≤ length (now message)) × (length (now message) ≤ unit) ⌝ }
+    requires { ⌜ (length (now store) ≡ store-size) × (1 ≤ length (now message)) × (length (now message) ≤ store-size) × (8 ≤ requester .unit) ⌝ }
     ensures { λ r. ⌜ outcome (r .answer) (side (r .requester) (now (store .exit))) ≡ Receive·first (side requester (now (store .entry))) header (now (message .entry)) ⌝ }
 {
     let awaiting = requester.awaiting;
     let awaited = awaits(header.source, header.tag, awaiting);
-    let opened = opening::opened(UNIT, true, header, message);
+    let opened = opening::opened(requester.unit, true, header, message);
     match opened {
         First::Refused(n) => refused(requester, n),
         First::Control => {
@@ -181,7 +180,7 @@ fn later(requester: Requester, store: &mut [u8], header: Header, payload: &[u8])
         return refused(requester, answers::NO_ASSEMBLY);
     }
     let refusal = mctp::join_refusal(
-        UNIT,
+        requester.unit,
         STORE_SIZE,
         assembly.sequence,
         assembly.length,
@@ -204,7 +203,7 @@ pub fn receive(requester: Requester, store: &mut [u8], packet: &[u8]) -> Receive
     if store.len() != STORE_SIZE {
         return refused(requester, answers::WRONG_STORES);
     }
-    let read = mctp::read_header(requester.eid, UNIT, false, packet);
+    let read = mctp::read_header(requester.eid, requester.unit, false, packet);
     let Read::Packet(header) = read else {
         return refused(requester, mctp::refusal_of(read));
     };

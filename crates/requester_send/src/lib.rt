@@ -1,10 +1,12 @@
 // The controller's packets: a command cut into them, and a control primitive in one.
 ghost use mathlib.Core.Path.{_≡_};
 ghost use mathlib.Core.List.{_++_};
-ghost use Prim.Native.Nat.{_≤_};
+ghost use Prim.Native.Nat.{_≤_, _<_};
 ghost use lib.ListN.{length, drop};
 ghost use Rattle.mctp.specs.Cut.{cut as Cut·cut, endToEnd};
-ghost use Rattle.machine.specs.Wire.{unit, store-size};
+ghost use Rattle.mctp.specs.Setup.{most-unit};
+ghost use Rattle.machine.specs.Wire.{store-size};
+ghost use Rattle.controller.specs.State.{Valid};
 ghost use Rattle.controller.specs.Send.{sentTo, sendSays, routeFrom, cutTo, controlRequest, primitiveTo};
 ghost use Rattle.controller.specs.Grounds.{cutNumbers, primitiveNumbers};
 use controller::LAST_TAG;
@@ -15,7 +17,6 @@ use controller::answers;
 use machine::sizes::CONTROL_SIZE;
 use machine::sizes::SMALLEST;
 use machine::sizes::STORE_SIZE;
-use machine::sizes::UNIT;
 use mctp::Route;
 
 // The check of a control request stands behind its first eight bytes.
@@ -34,15 +35,16 @@ fn route_from(requester: Requester, destination: u8, tag: u8) -> Route
 }
 
 // Writes all packets of a message end to end to the front of `out`, and returns how many bytes they have. Bytes behind them stay.
-fn write_cut(route: Route, message: &[u8], out: &mut [u8]) -> usize
+fn write_cut(unit: usize, route: Route, message: &[u8], out: &mut [u8]) -> usize
+    requires { ⌜ (0 < unit) × (unit ≤ most-unit) ⌝ }
     requires { ⌜ (length (now message) ≤ store-size) × (length (endToEnd (Cut·cut unit route (now message))) ≤ length (now out)) ⌝ }
     ensures { λ r. ⌜ r ≡ length (endToEnd (Cut·cut unit route (now (message .entry)))) ⌝ }
     ensures { λ r. ⌜ now (out .exit) ≡ endToEnd (Cut·cut unit route (now (message .entry))) ++ drop r (now (out .entry)) ⌝ }
 {
     let mut k = 0;
     let mut at = 0;
-    while UNIT * k < message.len() {
-        let n = mctp::write_packet(UNIT, route, message, k, &mut out[at..]);
+    while unit * k < message.len() {
+        let n = mctp::write_packet(unit, route, message, k, &mut out[at..]);
         at += n;
         k += 1;
     }
@@ -58,18 +60,20 @@ pub fn cut(
     message: &[u8],
     buffer: &mut [u8],
 ) -> SendAnswer
+    requires { ⌜ Valid requester ⌝ }
     ensures { λ r. ⌜ sentTo r (now (buffer .exit)) ≡ cutTo requester destination tag (now (message .entry)) (now (buffer .entry)) ⌝ }
-    ensures { λ r. ⌜ sendSays r ≡ cutNumbers tag (now (message .entry)) (now (buffer .entry)) ⌝ }
+    ensures { λ r. ⌜ sendSays r ≡ cutNumbers (requester .unit) tag (now (message .entry)) (now (buffer .entry)) ⌝ }
 {
     let n = message.len();
+    let unit = requester.unit;
     if n < SMALLEST || n > STORE_SIZE || tag > LAST_TAG {
         return SendAnswer::Refused(answers::OUT_OF_RANGE);
     }
-    if buffer.len() < n + mctp::HEADER_SIZE * mctp::packet_count(UNIT, n) {
+    if buffer.len() < n + mctp::HEADER_SIZE * mctp::packet_count(unit, n) {
         return SendAnswer::Refused(answers::SHORT_BUFFER);
     }
     let route = route_from(requester, destination, tag);
-    SendAnswer::Written(write_cut(route, message, buffer))
+    SendAnswer::Written(write_cut(unit, route, message, buffer))
 }
 
 // A control primitive's message.
@@ -95,6 +99,7 @@ pub fn primitive(
     asked: Primitive,
     buffer: &mut [u8],
 ) -> SendAnswer
+    requires { ⌜ Valid requester ⌝ }
     ensures { λ r. ⌜ sentTo r (now (buffer .exit)) ≡ primitiveTo requester destination tag asked (now (buffer .entry)) ⌝ }
     ensures { λ r. ⌜ sendSays r ≡ primitiveNumbers tag asked (now (buffer .entry)) ⌝ }
 {
@@ -110,5 +115,5 @@ pub fn primitive(
     }
     let message = control_request(asked);
     let route = route_from(requester, destination, tag);
-    SendAnswer::Written(mctp::write_packet(UNIT, route, &message, 0, buffer))
+    SendAnswer::Written(mctp::write_packet(requester.unit, route, &message, 0, buffer))
 }

@@ -25,7 +25,7 @@ use Rattle.machine.proofs.Tickets.{accepted, answers-own, gave, take-keeps, sin
 use Rattle.machine.proofs.Histories.{Good, plain-carries, good-next, good-run, good-every}
 use Rattle.machine.proofs.Responses.{Turned, kept, came-in, answered, turned}
 use Rattle.machine.proofs.Arrives.{filled, process-early}
-use Rattle.machine.proofs.Identity.{eid-kept}
+use Rattle.machine.proofs.Identity.{identity-kept}
 use Rattle.controller.specs.Send.{cutTo}
 use Rattle.controller.specs.Grounds.{isAwaited, packetsIn}
 use Rattle.controller.proofs.Arrival.{awaited-small}
@@ -114,26 +114,26 @@ settled-fresh : (b : Bool) (r : Response) {q : Phase} → q ≡ settled b r → 
 settled-fresh true r e = waits r e
 settled-fresh false r e = goes r e
 
-fresh-after : {C : Type 0} {p q : Phase} (store : List ℕ) (l : Trace) → Steady C p q → isProcess p ≡ true → (C → ⊥) → FitP q store l → (l .response ≡ [] → ⊥) → Fresh q
-fresh-after {p = p} {q = q} store l (same e) a n f there = by q (ap isProcess e ∙ a) f
+fresh-after : {C : Type 0} {p q : Phase} (unit : ℕ) (store : List ℕ) (l : Trace) → Steady C p q → isProcess p ≡ true → (C → ⊥) → FitP unit q store l → (l .response ≡ [] → ⊥) → Fresh q
+fresh-after {p = p} {q = q} unit store l (same e) a n f there = by q (ap isProcess e ∙ a) f
   where
-    by : (q : Phase) → isProcess q ≡ true → FitP q store l → Fresh q
+    by : (q : Phase) → isProcess q ≡ true → FitP unit q store l → Fresh q
     by (Idle held) k f = false-true k
     by (Receive x) k f = false-true k
     by (Process r) k f = absurd (there (f .unfixed))
     by (Answered r) k f = false-true k
     by (Transmit r) k f = false-true k
-fresh-after {p = p} store l (newly x y) a n f there = process-early p x a
-fresh-after store l (released x b d) a n f there = false-true (sym (ap isProcess b) ∙ a)
-fresh-after store l (handed-over x b d) a n f there =
-    let k : FitP (Process (takenRequest x)) store l = rw d at f in absurd (there (k .unfixed))
-fresh-after store l (worked x b y d e) a n f there = settled-fresh b y e
-fresh-after store l (fell c e) a n f there = absurd (n c)
+fresh-after {p = p} unit store l (newly x y) a n f there = process-early p x a
+fresh-after unit store l (released x b d) a n f there = false-true (sym (ap isProcess b) ∙ a)
+fresh-after unit store l (handed-over x b d) a n f there =
+    let k : FitP unit (Process (takenRequest x)) store l = rw d at f in absurd (there (k .unfixed))
+fresh-after unit store l (worked x b y d e) a n f there = settled-fresh b y e
+fresh-after unit store l (fell c e) a n f there = absurd (n c)
 
 fresh-unsent : (i : ℕ) → i ≤ 1 → (h : History) → Good h → Fresh (phaseAt (h .world) i) → isUnsent i h ≡ true
 fresh-unsent i is h g (waits r e) = rw e refl
 fresh-unsent i is h g (goes r e) =
-    let on : Going (outgoing r 0) (storeAt (h .world) i) (h .trace i) = rw e at (g .fits i is .phase-fits) in
+    let on : Going (h .world .endpoint .unit) (outgoing r 0) (storeAt (h .world) i) (h .trace i) = rw e at (g .fits i is .phase-fits) in
     rw (e, on .count) refl
 
 -- ---- lists of calls joined
@@ -206,41 +206,43 @@ module _ (h₁ : History) (g₁ : Good h₁) (w₀ : World) (source tag : ℕ) (
       let gk₁ = good-next (complete i t body) k gk in
       let process = accepted (k .world) (gk .sound) i is t body done .0 in
       let steady = plain-carries (complete i t body) k gk refl .carried i is .steady in
-      let fits : FitP (phaseAt (step (complete i t body) (k .world) .world) i) (storeAt (k₁ .world) i) (k₁ .trace i) = unfold next in (gk₁ .fits i is .phase-fits) in
+      let fits : FitP (k₁ .world .endpoint .unit) (phaseAt (step (complete i t body) (k .world) .world) i) (storeAt (k₁ .world) i) (k₁ .trace i) = unfold next in (gk₁ .fits i is .phase-fits) in
       let fresh : Fresh (phaseAt (step (complete i t body) (k .world) .world) i) =
-      fresh-after (storeAt (k₁ .world) i) (k₁ .trace i) steady process (λ q. false-true q) fits (λ n. filled i m body (sym response-is ∙ n)) in
+      fresh-after (k₁ .world .endpoint .unit) (storeAt (k₁ .world) i) (k₁ .trace i) steady process (λ q. false-true q) fits (λ n. filled i m body (sym response-is ∙ n)) in
       fresh-unsent i is k₁ gk₁ (fresh-next fresh)
     where
       fresh-next : Fresh (phaseAt (step (complete i t body) (k .world) .world) i) → Fresh (phaseAt (k₁ .world) i)
       fresh-next f = unfold next in f
 
 pub answer-returns : AnswerReturns
-answer-returns eid store0 store1 a b xs s tag m buffer v size awaited good room idle none t body us ys zs d alone took few done out =
+answer-returns eid unit store0 store1 a b xs s tag m buffer v size one awaited good room idle none t body us ys zs d alone took few done out =
     let i = csiOf m in
-    let begin = start eid store0 store1 in
+    let begin = start eid unit store0 store1 in
     let h = run xs begin in
-    let g = good-every eid store0 store1 a b xs in
-    let ps = packetsIn m (cutTo (s .requester) (h .world .endpoint .eid) tag m buffer) in
+    let g = good-every eid unit store0 store1 a b xs in
+    let ps = packetsIn (s .requester .unit) m (cutTo (s .requester) (h .world .endpoint .eid) tag m buffer) in
     let h₁ = asked h s tag m buffer in
     let g₁ = good-run (receives ps) h g in
     let k₁ = completed i us ys t body h₁ in
-    let small = awaited-small (h .world .endpoint .eid) tag (s .requester .awaiting) (v .awaiting-facts) awaited .0 in
+    let small = awaited-small (s .requester .unit) (h .world .endpoint .eid) tag (s .requester .awaiting) (v .awaiting-facts) awaited .0 in
     let e₁ : Entered (h .world) (s .requester .eid) tag m (h₁ .world) =
-    rw (world-run (receives ps) h) (command-entered (h .world) (s .requester) tag m buffer (g .sound) small good room idle none) in
+    rw (world-run (receives ps) h) (command-entered (h .world) (s .requester) tag m buffer (g .sound) v one small good room idle none) in
     let join₁ : run ((xs ++ receives ps) ++ us) begin ≡ run us h₁ = run-join (xs ++ receives ps) us begin ∙ ap (run us) (run-join xs (receives ps) begin) in
     let most : beforeCompletion i us ys h₁ .trace i .entries < run us h₁ .trace i .entries + 2 ^ 32 = rw alone few in
     let own : Own (run us h₁) (beforeCompletion i us ys h₁) i t body =
-    rw join₁ at (answers-own eid store0 store1 a b ((xs ++ receives ps) ++ us) i t (rw join₁ took) ys body (rw join₁ most) (rw join₁ done)) in
+    rw join₁ at (answers-own eid unit store0 store1 a b ((xs ++ receives ps) ++ us) i t (rw join₁ took) ys body (rw join₁ most) (rw join₁ done)) in
     let calls = ((xs ++ receives ps) ++ us) ++ (take! i ∷ (ys ++ (complete i t body ∷ []))) in
     let join₂ : run calls begin ≡ k₁ =
     run-join ((xs ++ receives ps) ++ us) (take! i ∷ (ys ++ (complete i t body ∷ []))) begin
     ∙ ap (run (take! i ∷ (ys ++ (complete i t body ∷ [])))) join₁ ∙ run-last (take! i) (complete i t body) ys (run us h₁) in
     let unsent = unsent-is h₁ g₁ (h .world) (s .requester .eid) tag m body t us ys e₁ alone took own done in
-    let back : Returned i k₁ (sentUntil i zs k₁) = rw join₂ at (response-arrives eid store0 store1 a b calls i (csi-most m) (rw join₂ unsent) zs d (rw join₂ out)) in
+    let back : Returned i k₁ (sentUntil i zs k₁) = rw join₂ at (response-arrives eid unit store0 store1 a b calls i (csi-most m) (rw join₂ unsent) zs d (rw join₂ out)) in
     let who = asker-is h₁ g₁ (h .world) (s .requester .eid) tag m body t us ys e₁ alone took own in
-    let same-eid : k₁ .world .endpoint .eid ≡ h .world .endpoint .eid =
-    ap (λ (x : History). x .world .endpoint .eid) (sym join₂) ∙ eid-kept eid store0 store1 a b calls ∙ sym (eid-kept eid store0 store1 a b xs) in
+    let at-end = identity-kept eid unit store0 store1 a b calls in
+    let at-start = identity-kept eid unit store0 store1 a b xs in
+    let same-eid : k₁ .world .endpoint .eid ≡ h .world .endpoint .eid = ap (λ (x : History). x .world .endpoint .eid) (sym join₂) ∙ at-end .eid-is ∙ sym (at-start .eid-is) in
+    let same-unit : k₁ .world .endpoint .unit ≡ h .world .endpoint .unit = ap (λ (x : History). x .world .endpoint .unit) (sym join₂) ∙ at-end .unit-is ∙ sym (at-start .unit-is) in
     let got =
-    back .gathered s v size (sym (who .0))
+    back .gathered s v size (sym (who .0)) (one ∙ sym same-unit)
     (ap (λ (x : ℕ). isAwaited x (k₁ .trace i .tag) (s .requester .awaiting)) same-eid ∙ ap (λ (x : ℕ). isAwaited (h .world .endpoint .eid) x (s .requester .awaiting)) (who .1) ∙ awaited) in
     rw (response-is h₁ g₁ (h .world) (s .requester .eid) tag m body t us ys e₁ alone took own) at got

@@ -16,7 +16,7 @@ use Rattle.machine.specs.State.{World, slotAt, storeAt, withPhase, nextTicket}
 use Rattle.machine.specs.Finish.{isSlot, takenRequest, taken, part}
 use Rattle.machine.specs.Valid.{Sound}
 use Rattle.machine.specs.Calls.{Call, receive, take!, read, Event, number, given, part-read, step, events}
-use Rattle.machine.specs.History.{phaseAt, fixedAtEntry}
+use Rattle.machine.specs.History.{phaseAt, fixedAtEntry, unitOf, overUnit}
 use Rattle.machine.specs.Demands.{isIdleNow}
 use Rattle.machine.specs.Replies.{csiOf}
 use Rattle.machine.specs.declared.Taking.the-variants.{Untaken}
@@ -24,8 +24,9 @@ use Rattle.machine.specs.declared.Request.{Request}
 use Rattle.machine.specs.declared.Phase.the-variants.{Process}
 use Rattle.machine.proofs.Places.{slot-this, Which, this, that, which}
 use Rattle.machine.proofs.Receiving.{csi-most}
+use Rattle.controller.specs.State.{Valid}
 use Rattle.controller.specs.Send.{cutTo}
-use Rattle.controller.specs.Grounds.{countOf, cutNumbers, sizeOf, packetsIn}
+use Rattle.controller.specs.Grounds.{cutNumbers, sizeOf, packetsIn}
 use Rattle.controller.specs.declared.Requester.{Requester}
 use Rattle.controller.proofs.Calls.{cut-so}
 use Rattle.round_trip.specs.Command.{receives, worldAfter, commandOf, Untouched, Arrived, CommandArrives}
@@ -88,24 +89,24 @@ handed-over w₀ w source tag m e =
 -- ---- what was cut
 
 -- a command of the right size under a right tag, into a buffer that is long enough
-cut-done : (tag : ℕ) (m buffer : List ℕ) → tag ≤ 7 → 8 ≤ length m → length m ≤ 4224 → sizeOf m ≤ length buffer → cutNumbers tag m buffer ≡ (0, sizeOf m ∷ [])
-cut-done tag m buffer t lo hi room =
-    rw (le-ltb (length m) 8 lo, le-ltb 4224 (length m) hi, le-ltb 7 tag t, le-ltb (length buffer) (sizeOf m) room) refl
+cut-done : (unit tag : ℕ) (m buffer : List ℕ) → tag ≤ 7 → 8 ≤ length m → length m ≤ 4224 → sizeOf unit m ≤ length buffer → cutNumbers unit tag m buffer ≡ (0, sizeOf unit m ∷ [])
+cut-done unit tag m buffer t lo hi room =
+    rw (le-ltb (length m) 8 lo, le-ltb 4224 (length m) hi, le-ltb 7 tag t, le-ltb (length buffer) (sizeOf unit m) room) refl
 
 -- what the packets of the cut lead to, from any list of the same packets
-arrived : (w : World) (source tag : ℕ) (m : List ℕ) (ps : List (List ℕ)) → ps ≡ cut 64 (routeIn (w .endpoint .eid) source tag) m
-    → answers atEndpoint w (cut 64 (routeIn (w .endpoint .eid) source tag) m) ≡ replicate (countOf (length m) - 1) 0 ++ (1 ∷ [])
-    → Entered w source tag m (left atEndpoint w (cut 64 (routeIn (w .endpoint .eid) source tag) m)) → Arrived w source tag m ps
+arrived : (w : World) (source tag : ℕ) (m : List ℕ) (ps : List (List ℕ)) → ps ≡ cut (unitOf w) (routeIn (w .endpoint .eid) source tag) m
+    → answers atEndpoint w (cut (unitOf w) (routeIn (w .endpoint .eid) source tag) m) ≡ replicate (overUnit (unitOf w) (length m) - 1) 0 ++ (1 ∷ [])
+    → Entered w source tag m (left atEndpoint w (cut (unitOf w) (routeIn (w .endpoint .eid) source tag) m)) → Arrived w source tag m ps
 arrived w source tag m ps same told e =
-    let after : worldAfter (receives ps) w ≡ left atEndpoint w (cut 64 (routeIn (w .endpoint .eid) source tag) m) = received-world ps w ∙ ap (left atEndpoint w) same in
+    let after : worldAfter (receives ps) w ≡ left atEndpoint w (cut (unitOf w) (routeIn (w .endpoint .eid) source tag) m) = received-world ps w ∙ ap (left atEndpoint w) same in
     let k : Entered w source tag m (worldAfter (receives ps) w) = rw after e in
     record {
       answered =
           events-then (receives ps) (take! (csiOf m) ∷ read (csiOf m) ∷ []) w
           ∙ ap (λ (es : List Event). es ++ events (take! (csiOf m) ∷ read (csiOf m) ∷ []) (worldAfter (receives ps) w))
           (received-events ps w ∙ ap (λ (x : List (List ℕ)). numbers (answers atEndpoint w x)) same ∙ ap numbers told)
-          ∙ ap (λ (es : List Event). numbers (replicate (countOf (length m) - 1) 0 ++ (1 ∷ [])) ++ es) (handed-over w (worldAfter (receives ps) w) source tag m k)
-          ∙ zeros-then (countOf (length m) - 1) _ _;
+          ∙ ap (λ (es : List Event). numbers (replicate (overUnit (unitOf w) (length m) - 1) 0 ++ (1 ∷ [])) ++ es) (handed-over w (worldAfter (receives ps) w) source tag m k)
+          ∙ zeros-then (overUnit (unitOf w) (length m) - 1) _ _;
       sound = k .sound;
       in-process = k .in-process;
       ticket-next = k .ticket-next;
@@ -118,25 +119,32 @@ arrived w source tag m ps same told e =
     other-slot (that q) n e = rw q (record { phase-is = e .other-phase; ticket-is = e .other-ticket; store-is = e .other-store })
 
 -- the packets in the buffer are the cut
-packets-cut : (r : Requester) (destination tag : ℕ) (m buffer : List ℕ) → tag ≤ 7 → 8 ≤ length m → length m ≤ 4224 → sizeOf m ≤ length buffer
-    → packetsIn m (cutTo r destination tag m buffer) ≡ cut 64 (routeIn destination (r .eid) tag) m
-packets-cut r destination tag m buffer t lo hi room =
-    cut-so r destination tag m buffer .packets-are (ap (λ (n : ℕ × List ℕ). eqb (n .0) 0) (cut-done tag m buffer t lo hi room))
+packets-cut : (r : Requester) (destination tag : ℕ) (m buffer : List ℕ) → Valid r → tag ≤ 7 → 8 ≤ length m → length m ≤ 4224 → sizeOf (r .unit) m ≤ length buffer
+    → packetsIn (r .unit) m (cutTo r destination tag m buffer) ≡ cut (r .unit) (routeIn destination (r .eid) tag) m
+packets-cut r destination tag m buffer v t lo hi room =
+    cut-so r destination tag m buffer v .packets-are (ap (λ (n : ℕ × List ℕ). eqb (n .0) 0) (cut-done (r .unit) tag m buffer t lo hi room))
+
+-- and so for the endpoint's unit, which is the requester's
+packets-for : (w : World) (r : Requester) (tag : ℕ) (m buffer : List ℕ) → Valid r → r .unit ≡ unitOf w → tag ≤ 7 → WellFormed false m → sizeOf (r .unit) m ≤ length buffer
+    → packetsIn (r .unit) m (cutTo r (w .endpoint .eid) tag m buffer) ≡ cut (unitOf w) (routeIn (w .endpoint .eid) (r .eid) tag) m
+packets-for w r tag m buffer v one t good room =
+    packets-cut r (w .endpoint .eid) tag m buffer v t (good .long) (good .short) room ∙ ap (λ (u : ℕ). cut u (routeIn (w .endpoint .eid) (r .eid) tag) m) one
 
 pub command-arrives : CommandArrives
-command-arrives w r tag m buffer s t good room idle none =
+command-arrives w r tag m buffer s v one t good room idle none =
     let whole = entered-whole w (r .eid) tag m s t good none idle in (
-      cut-so r (w .endpoint .eid) tag m buffer .wrote .number-is ∙ cut-done tag m buffer t (good .long) (good .short) room,
-      arrived w (r .eid) tag m (packetsIn m (cutTo r (w .endpoint .eid) tag m buffer)) (packets-cut r (w .endpoint .eid) tag m buffer t (good .long) (good .short) room)
+      cut-so r (w .endpoint .eid) tag m buffer v .wrote .number-is ∙ cut-done (r .unit) tag m buffer t (good .long) (good .short) room,
+      arrived w (r .eid) tag m (packetsIn (r .unit) m (cutTo r (w .endpoint .eid) tag m buffer)) (packets-for w r tag m buffer v one t good room)
           (whole .all-answered) (whole .all-left),
     )
 
 -- the world that the packets in the buffer lead to
-pub command-entered : (w : World) (r : Requester) (tag : ℕ) (m buffer : List ℕ) → Sound w → tag ≤ 7 → WellFormed false m → sizeOf m ≤ length buffer
+pub command-entered : (w : World) (r : Requester) (tag : ℕ) (m buffer : List ℕ) → Sound w → Valid r → r .unit ≡ unitOf w → tag ≤ 7 → WellFormed false m
+    → sizeOf (r .unit) m ≤ length buffer
     → isIdleNow (phaseAt w (csiOf m)) ≡ true → fixedAtEntry (csiOf m) m ≡ []
-    → Entered w (r .eid) tag m (worldAfter (receives (packetsIn m (cutTo r (w .endpoint .eid) tag m buffer))) w)
-command-entered w r tag m buffer s t good room idle none =
-    let ps = packetsIn m (cutTo r (w .endpoint .eid) tag m buffer) in
-    let same : ps ≡ cut 64 (routeIn (w .endpoint .eid) (r .eid) tag) m = packets-cut r (w .endpoint .eid) tag m buffer t (good .long) (good .short) room in
-    let after : worldAfter (receives ps) w ≡ left atEndpoint w (cut 64 (routeIn (w .endpoint .eid) (r .eid) tag) m) = received-world ps w ∙ ap (left atEndpoint w) same in
+    → Entered w (r .eid) tag m (worldAfter (receives (packetsIn (r .unit) m (cutTo r (w .endpoint .eid) tag m buffer))) w)
+command-entered w r tag m buffer s v one t good room idle none =
+    let ps = packetsIn (r .unit) m (cutTo r (w .endpoint .eid) tag m buffer) in
+    let same : ps ≡ cut (unitOf w) (routeIn (w .endpoint .eid) (r .eid) tag) m = packets-for w r tag m buffer v one t good room in
+    let after : worldAfter (receives ps) w ≡ left atEndpoint w (cut (unitOf w) (routeIn (w .endpoint .eid) (r .eid) tag) m) = received-world ps w ∙ ap (left atEndpoint w) same in
     rw after (entered-whole w (r .eid) tag m s t good none idle .all-left)

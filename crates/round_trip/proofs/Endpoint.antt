@@ -5,9 +5,9 @@ use Prim.Native.Nat.{ℕ, zero, suc, _+_, _-_, _*_, _%_, _≤_, _<_}
 use mathlib.Core.Path.{_≡_, refl, sym, ap, _∙_}
 use mathlib.Core.Bool.{Bool, true, false}
 use mathlib.Core.List.{List, [], _∷_, _++_}
-use native.Mathlib.Nat.{mod-eq-of-lt}
+use native.Mathlib.Nat.{mul-zero, mod-eq-of-lt}
 use native.Mathlib.Omega.{arith}
-use lib.Dec.{lit<, eqb·suc-zero}
+use lib.Dec.{eqb·suc-zero}
 use lib.ListN.{length, take, drop, replicate, length-take}
 use borrow.Author.Tests.{eq-eqb}
 use Rattle.lent.specs.Choice.{if_then_else_}
@@ -32,7 +32,7 @@ use Rattle.opening.specs.declared.First.the-variants.{Command}
 use Rattle.opening.specs.declared.Joined.{Joined}
 use Rattle.opening.proofs.Joining.{holding, front-of, put-more, joins-more, put-whole, joins-whole, front-byte, opens}
 use Rattle.machine.specs.State.{World, Outcome, outcome, slotAt, storeAt, withSlot, withStore, withEndpoint, onSlot, withPhase, nextTicket, isIdle, idled}
-use Rattle.machine.specs.Wire.{unit, store-size, inward}
+use Rattle.machine.specs.Wire.{store-size, inward}
 use Rattle.machine.specs.Process.{request, processing, pausedIf, entered}
 use Rattle.machine.specs.Control.{pausedSlot, pause}
 use Rattle.machine.specs.Receive.{gathers, endedSlot, endAssembly, holderIn, holder, assembly, landed, gathered, firstCommand, firstBy, first, laterAt, laterBy, later, receivedBy, received}
@@ -51,7 +51,7 @@ use Rattle.machine.specs.declared.Endpoint.{Endpoint}
 use Rattle.machine.specs.declared.Holder.{Holder}
 use Rattle.machine.specs.declared.Holder.the-variants.{At}
 use Rattle.machine.proofs.Slots.{alone-at, other-most}
-use Rattle.machine.proofs.Places.{slot-this, slot-that, slot-both, store-this, store-that}
+use Rattle.machine.proofs.Places.{endOf, slot-this, slot-that, slot-both, store-this, store-that}
 use Rattle.machine.proofs.Receiving.{right-stores, csi-most, receives-gathers}
 use Rattle.machine.proofs.Keeps.{sound-endpoint, end-valid, received-sound}
 use Rattle.machine.proofs.Fits.{atEntry, fixed-is}
@@ -153,12 +153,12 @@ enters v i is ok a mh none =
 
 -- ---- one packet
 
-received-is : (w : World) (p : List ℕ) (h : Header) → Sound w → readHeader (w .endpoint .eid) unit inward p ≡ Packet h → received w p ≡ receivedBy w (payloadOf p) (Packet h)
+received-is : (w : World) (p : List ℕ) (h : Header) → Sound w → readHeader (w .endpoint .eid) (w .endpoint .unit) inward p ≡ Packet h → received w p ≡ receivedBy w (payloadOf p) (Packet h)
 unfolding received
 received-is w p h s e = rw (right-stores w s) (ap (receivedBy w (payloadOf p)) e)
 
 -- with SOM, a command for an Idle slot
-first-is : (v : World) (h : Header) (m : List ℕ) (i : ℕ) → opened unit false h m ≡ Command → messageHeader m .csi ≡ i → isIdle (phaseAt v i) ≡ true
+first-is : (v : World) (h : Header) (m : List ℕ) (i : ℕ) → opened (v .endpoint .unit) false h m ≡ Command → messageHeader m .csi ≡ i → isIdle (phaseAt v i) ≡ true
     → first v h m ≡ gathered v i 0 h m
 unfolding first firstCommand
 first-is v h m i o c idle = ap (firstBy v h m) o ∙ rw (c, idle) refl
@@ -168,7 +168,7 @@ without-som w h p e = rw e refl
 
 -- without SOM, one that joins
 later-is : (w : World) (h : Header) (p : List ℕ) (i : ℕ) (a : Assembly) → holder (w .endpoint) (h .source) (h .tag) ≡ At i a
-    → joinRefusal unit store-size (a .sequence) (a .length) h (length p) ≡ 0 → later w h p ≡ gathered w i (a .length) h p
+    → joinRefusal (w .endpoint .unit) store-size (a .sequence) (a .length) h (length p) ≡ 0 → later w h p ≡ gathered w i (a .length) h p
 unfolding later laterAt
 later-is w h p i a e j = ap (laterBy w h p) e ∙ rw j refl
 
@@ -206,6 +206,15 @@ pub record Entered (w₀ : World) (source tag : ℕ) (m : List ℕ) (w : World) 
 
 module _ (w₀ : World) (source tag : ℕ) (m : List ℕ) (s₀ : Sound w₀) (small : tag ≤ 7) (good : WellFormed false m)
     (none : fixedAtEntry (csiOf m) m ≡ []) where
+  abbrev unit : ℕ
+  unit = w₀ .endpoint .unit
+
+  wide : 8 ≤ unit
+  wide = omega (arith, s₀ .state .numbers .unit-least)
+
+  pos : 0 < unit
+  pos = omega (arith, s₀ .state .numbers .unit-least)
+
   abbrev route : Route
   route = routeIn (w₀ .endpoint .eid) source tag
 
@@ -243,10 +252,10 @@ module _ (w₀ : World) (source tag : ℕ) (m : List ℕ) (s₀ : Sound w₀) (s
     ticket-is : slotAt (w .endpoint) there .ticket ≡ slotAt (w₀ .endpoint) there .ticket
     store-is : storeAt w there ≡ storeAt w₀ there
 
-  -- what stays until the last packet: the EID, the slot's ticket; and the store holds the first k payloads
+  -- what stays until the last packet: the EID, the unit, the slot's ticket; and the store holds the first k payloads
   record Held (k : ℕ) (w : World) : Type 0 where
     sound : Sound w
-    ours : w .endpoint .eid ≡ w₀ .endpoint .eid
+    ours : endOf (w .endpoint) ≡ endOf (w₀ .endpoint)
     ticket-same : slotAt (w .endpoint) here .ticket ≡ slotAt (w₀ .endpoint) here .ticket
     store-is : storeAt w here ≡ holding m (unit * k) (storeAt w₀ here)
 
@@ -262,11 +271,11 @@ module _ (w₀ : World) (source tag : ℕ) (m : List ℕ) (s₀ : Sound w₀) (s
     other : Other (since (suc k)) v
 
   -- the packet is read
-  reading : (k : ℕ) (w : World) → Sound w → w .endpoint .eid ≡ w₀ .endpoint .eid → unit * k < length m
+  reading : (k : ℕ) (w : World) → Sound w → endOf (w .endpoint) ≡ endOf (w₀ .endpoint) → unit * k < length m
       → received w (packet unit route m k) ≡ receivedBy w (bytes k) (Packet (head k))
   reading k w s ours inside =
       received-is w (packet unit route m k) (head k) s
-      (ap (λ (e : ℕ). readHeader e unit inward (packet unit route m k)) ours ∙ read-of-cut unit route m k (lit< tt) inside)
+      (ap (λ (e : ℕ × ℕ). readHeader (e .0) (e .1) inward (packet unit route m k)) ours ∙ read-of-cut unit route m k pos inside)
       ∙ ap (λ (x : List ℕ). receivedBy w x (Packet (head k))) (unfold packet in refl)
 
   abbrev freed : World → World
@@ -279,7 +288,7 @@ module _ (w₀ : World) (source tag : ℕ) (m : List ℕ) (s₀ : Sound w₀) (s
         held =
             record {
               sound = sound-endpoint (r .held .sound) (end-valid source (tag % 8) (r .held .sound .state));
-              ours = eid-same;
+              ours = end-same;
               ticket-same = ap (λ (x : Slot). x .ticket) kept ∙ r .held .ticket-same;
               store-is = r .held .store-is;
             };
@@ -297,13 +306,15 @@ module _ (w₀ : World) (source tag : ℕ) (m : List ℕ) (s₀ : Sound w₀) (s
       that : slotAt (freed w .endpoint) there ≡ endedSlot source (tag % 8) (slotAt (w .endpoint) there)
       that = unfold endAssembly in (slot-both (endedSlot source (tag % 8)) (w .endpoint) there (other-most here))
 
-      eid-same : freed w .endpoint .eid ≡ w₀ .endpoint .eid
-      eid-same = unfold endAssembly in (r .held .ours)
+      end-same : endOf (freed w .endpoint) ≡ endOf (w₀ .endpoint)
+      end-same = unfold endAssembly in (r .held .ours)
 
       first-so : receivedBy w (bytes 0) (Packet (head 0)) ≡ gathered (freed w) here (unit * 0) (head 0) (bytes 0)
       first-so =
-          first-is (freed w) (head 0) (bytes 0) here (opens unit false route m (omega arith) good) (ap (λ (x : ℕ). x % 2) (front-byte unit m 1 (omega arith)))
+          first-is (freed w) (head 0) (bytes 0) here (ap (λ (e : ℕ × ℕ). opened (e .1) false (head 0) (bytes 0)) end-same ∙ opens unit false route m wide good)
+          (ap (λ (x : ℕ). x % 2) (front-byte unit m 1 (omega (arith, wide))))
           (ap (λ (x : Slot). isIdle (x .phase)) kept ∙ idle)
+          ∙ ap (λ (n : ℕ). gathered (freed w) here n (head 0) (bytes 0)) (sym (mul-zero unit))
 
   lands-later : (k : ℕ) (w : World) → Ready (suc k) w → phaseAt w here ≡ Receive (so-far k) → unit * suc k < length m → Lands (suc k) w w
   lands-later k w r p inside =
@@ -316,8 +327,9 @@ module _ (w₀ : World) (source tag : ℕ) (m : List ℕ) (s₀ : Sound w₀) (s
       later-so =
           without-som w (head (suc k)) (bytes (suc k)) (eqb·suc-zero k)
           ∙ later-is w (head (suc k)) (bytes (suc k)) here (so-far k) (finds here is (r .held .sound .state) (so-far k) p)
-          (ap (λ (n : ℕ). joinRefusal unit store-size (k % 4) n (head (suc k)) (length (bytes (suc k)))) (sym gathered-length)
-          ∙ no-refusal unit store-size route m (lit< tt) (good .short) k inside)
+          (ap (λ (e : ℕ × ℕ). joinRefusal (e .1) store-size (k % 4) (unit * suc k) (head (suc k)) (length (bytes (suc k)))) (r .held .ours)
+          ∙ ap (λ (n : ℕ). joinRefusal unit store-size (k % 4) n (head (suc k)) (length (bytes (suc k)))) (sym gathered-length)
+          ∙ no-refusal unit store-size route m pos (good .short) k inside)
 
   lands : {k : ℕ} {w : World} → Ready k w → unit * k < length m → ((v : World) × Lands k w v)
   lands {k} {w} r inside = by k r (r .before) inside
@@ -334,7 +346,7 @@ module _ (w₀ : World) (source tag : ℕ) (m : List ℕ) (s₀ : Sound w₀) (s
   more-packets k w r n = by (lands r inside)
     where
       inside : unit * k < length m
-      inside = packets-bounds unit (length m) k (lit< tt) .0 (omega arith)
+      inside = packets-bounds unit (length m) k pos .0 (omega arith)
 
       after : List ℕ
       after = holding m (unit * suc k) (storeAt w₀ here)
@@ -343,10 +355,10 @@ module _ (w₀ : World) (source tag : ℕ) (m : List ℕ) (s₀ : Sound w₀) (s
       by (v, l) =
           let s = withPhase (slotAt (v .endpoint) here) (Receive (so-far k)) in
           let put-so : put (storeAt v here) (unit * k) (bytes k) ≡ after =
-          ap (λ (x : List ℕ). put x (unit * k) (bytes k)) (l .held .store-is) ∙ put-more unit route m (lit< tt) (storeAt w₀ here) k n in
+          ap (λ (x : List ℕ). put x (unit * k) (bytes k)) (l .held .store-is) ∙ put-more unit route m pos (storeAt w₀ here) k n in
           let so : received w (packet unit route m k) ≡ outcome 0 (onSlot (withStore v here after) here s) =
           l .received-so ∙ gathered-is v here (unit * k) (head k) (bytes k) after is put-so
-          ∙ joins-more unit route m (lit< tt) (leading k (withStore v here after)) after k n in
+          ∙ joins-more unit route m pos (leading k (withStore v here after)) after k n in
           let put-in : slotAt (onSlot (withStore v here after) here s .endpoint) here ≡ s = slot-this here is (l .held .sound .state) s in
           let that = slot-that here is (l .held .sound .state) s in
           leads w (packet unit route m k) 0 (onSlot (withStore v here after) here s) so
@@ -371,7 +383,7 @@ module _ (w₀ : World) (source tag : ℕ) (m : List ℕ) (s₀ : Sound w₀) (s
   last-packet k w r n = by (lands r inside)
     where
       inside : unit * k < length m
-      inside = packets-bounds unit (length m) k (lit< tt) .0 (omega arith)
+      inside = packets-bounds unit (length m) k pos .0 (omega arith)
 
       after : List ℕ
       after = m ++ drop (length m) (storeAt w₀ here)
@@ -381,12 +393,12 @@ module _ (w₀ : World) (source tag : ℕ) (m : List ℕ) (s₀ : Sound w₀) (s
           let filled-v = withStore v here after in
           let a = assembly (head k) (length m) in
           let put-so : put (storeAt v here) (unit * k) (bytes k) ≡ after =
-          ap (λ (x : List ℕ). put x (unit * k) (bytes k)) (l .held .store-is) ∙ put-whole unit route m (lit< tt) (storeAt w₀ here) k n in
+          ap (λ (x : List ℕ). put x (unit * k) (bytes k)) (l .held .store-is) ∙ put-whole unit route m pos (storeAt w₀ here) k n in
           let in-store : take (length m) (storeAt filled-v here) ≡ m = ap (take (length m)) (store-this v here is after) ∙ front-of m (storeAt w₀ here) in
           let u = entered filled-v here a (messageHeader m) in
           let so : received w (packet unit route m k) ≡ outcome 1 u =
           l .received-so ∙ gathered-is v here (unit * k) (head k) (bytes k) after is put-so
-          ∙ joins-whole unit route m (lit< tt) (leading k filled-v) after k (front-of m (storeAt w₀ here)) (good .right) n
+          ∙ joins-whole unit route m pos (leading k filled-v) after k (front-of m (storeAt w₀ here)) (good .right) n
           ∙ ap (λ (x : List ℕ). outcome 1 (entered filled-v here a (messageHeader x))) in-store in
           let tagged : tag % 8 ≡ tag = mod-eq-of-lt (omega arith) in
           let e : Enters filled-v here (commandOf source (tag % 8) m) u = enters filled-v here is (l .held .sound .state) a (messageHeader m) (no-fault here m none) in
@@ -404,9 +416,9 @@ module _ (w₀ : World) (source tag : ℕ) (m : List ℕ) (s₀ : Sound w₀) (s
   pub entered-whole : isIdleNow (phaseAt w₀ here) ≡ true
       → Fed atEndpoint w₀ (cut unit route m) (replicate (packets unit (length m) - 1) 0 ++ (1 ∷ [])) (Entered w₀ source tag m)
   entered-whole idle =
-      fed atEndpoint 0 1 unit route m Ready (Entered w₀ source tag m) more-packets last-packet w₀ (lit< tt) (omega (arith, good .long))
+      fed atEndpoint 0 1 unit route m Ready (Entered w₀ source tag m) more-packets last-packet w₀ pos (omega (arith, good .long))
       (record {
-        held = record { sound = s₀; ours = refl; ticket-same = refl; store-is = refl };
+        held = record { sound = s₀; ours = refl; ticket-same = refl; store-is = rw (mul-zero unit) refl };
         other = record { phase-is = refl; ticket-is = refl; store-is = refl };
         before = start (sym (idle-now (phaseAt w₀ here)) ∙ idle);
       })

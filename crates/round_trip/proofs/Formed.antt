@@ -21,7 +21,7 @@ use Rattle.machine.specs.Valid.{PhaseFacts}
 use Rattle.machine.specs.Receive.{received}
 use Rattle.machine.specs.Finish.{taken, completed}
 use Rattle.machine.specs.Calls.{Call, receive, take!, read, complete, poll, timeout, reset, Event, number, given, part-read, handed-out, takeEvent, step}
-use Rattle.machine.specs.History.{Trace, History, hasSom, sourceOf, messageTagOf, bytesFrom4, phaseAt, receivesFrom, isFor, requestWith, kindOf, responseFor, leastLength, fixedAtEntry, commanded, transmitted, isTransmit, isPacketOf, next, run, start}
+use Rattle.machine.specs.History.{Trace, History, hasSom, sourceOf, messageTagOf, bytesFrom4, phaseAt, receivesFrom, isFor, requestWith, kindOf, responseFor, leastLength, fixedAtEntry, commanded, transmitted, isTransmit, isPacketOf, next, run, start, unitOf}
 use Rattle.machine.specs.Numbers.{rightSizes, isTaken, completeIn}
 use Rattle.machine.specs.Grounds.{hasEom, controlNumber, firstNumber, receiveNumber}
 use Rattle.machine.specs.declared.Ticket.{Ticket}
@@ -106,26 +106,26 @@ first-kind : (w : World) (p : List ℕ) (n : ℕ) → n ≤ 1 → hasSom p ≡ t
 first-kind w p n low som e =
     let a = past (not (rightSizes w)) 40 _ n low (omega arith) e in
     let b = past (ltb (length p) 5) 10 _ n low (omega arith) (a .1) in
-    let c = past (ltb 68 (length p)) 11 _ n low (omega arith) (b .1) in
+    let c = past (ltb (unitOf w + 4) (length p)) 11 _ n low (omega arith) (b .1) in
     let d = past (not (eqb (byteAt p 0 % 16) 1)) 12 _ n low (omega arith) (c .1) in
     let f = past (not (eqb (byteAt p 1) (w .endpoint .eid))) 13 _ n low (omega arith) (d .1) in
     let g = past (not (isSet (byteAt p 3) 3)) 14 _ n low (omega arith) (f .1) in
     let h : firstNumber w p (bytesFrom4 p) ≡ n = rw som at (g .1) in
     let i = past (not (eqb (byteAt (bytesFrom4 p) 0) 0x84)) 15 _ n low (omega arith) h in
-    let j = past (not (hasEom p) && not (eqb (length (bytesFrom4 p)) 64)) 16 _ n low (omega arith) (i .1) in
+    let j = past (not (hasEom p) && not (eqb (length (bytesFrom4 p)) (unitOf w))) 16 _ n low (omega arith) (i .1) in
     let k = past (hasEom p && ltb (length (bytesFrom4 p)) 8) 17 _ n low (omega arith) (j .1) in
     let l = past (isSet (byteAt (bytesFrom4 p) 1) 7) 15 _ n low (omega arith) (k .1) in
     past (eqb (kindOf (bytesFrom4 p)) 0) (controlNumber p (bytesFrom4 p)) _ n low (control-high p (bytesFrom4 p)) (l .1) .0
 
 -- the slot's request so far, where it is in Receive
-gathered-long : (h : History) → Good h → (i : ℕ) → i ≤ 1 → (source tag : ℕ) → receivesFrom source tag (phaseAt (h .world) i) ≡ true → 64 ≤ length (h .trace i .request)
+gathered-long : (h : History) → Good h → (i : ℕ) → i ≤ 1 → (source tag : ℕ) → receivesFrom source tag (phaseAt (h .world) i) ≡ true → unitOf (h .world) ≤ length (h .trace i .request)
 gathered-long h g i is source tag r = by (phaseAt (h .world) i) refl r
   where
-    by : (p : Phase) → phaseAt (h .world) i ≡ p → receivesFrom source tag p ≡ true → 64 ≤ length (h .trace i .request)
+    by : (p : Phase) → phaseAt (h .world) i ≡ p → receivesFrom source tag p ≡ true → unitOf (h .world) ≤ length (h .trace i .request)
     by (Idle held) t e = false-true e
     by (Receive a) t e =
         let held : take (a .length) (storeAt (h .world) i) ≡ h .trace i .request = rw t at (g .fits i is .phase-fits) in
-        let f : PhaseFacts (slotAt (h .world .endpoint) i .paused) (Receive a) = rw t at (facts-at i is (g .sound .state)) in
+        let f : PhaseFacts (h .world .endpoint .unit) (slotAt (h .world .endpoint) i .paused) (Receive a) = rw t at (facts-at i is (g .sound .state)) in
         rw (sym held) (rw (length-take-le (a .length) (storeAt (h .world) i) (rw (store-at i (g .sound)) (f .1))) (f .0))
     by (Process r) t e = false-true e
     by (Answered r) t e = false-true e
@@ -140,7 +140,8 @@ taken-kind h g i is p n low e k old = by (hasSom p) refl
     by true som = rw som (first-kind (h .world) p n low som (sym (grounds (h .world) p (g .sound .state)) ∙ e))
     by false som =
         let for-it : receivesFrom (sourceOf p) (messageTagOf p) (phaseAt (h .world) i) ≡ true = rw som at k in
-        let long = gathered-long h g i is (sourceOf p) (messageTagOf p) for-it in
+        let full = gathered-long h g i is (sourceOf p) (messageTagOf p) for-it in
+        let long : 2 ≤ length (h .trace i .request) = omega (arith, full, g .sound .state .numbers .unit-least) in
         rw som (ap (λ (x : ℕ). eqb x 0) (kind-stays (h .trace i .request) (bytesFrom4 p) (omega arith)) ∙ long-kind (h .trace i .request) old (omega arith))
 
 -- ---- a completion that is accepted
@@ -160,7 +161,7 @@ completed-formed h g i is t body e old =
         let d = past (not (isTaken (r .taking))) 34 _ 0 (omega arith) (omega arith) (c .1) in
         let sizes = past (ltb (length body) 4 || ltb 4216 (length body)) 35 _ 0 (omega arith) (omega arith) (d .1) .0 in
         let k : Asked r (storeAt (h .world) i) (h .trace i) = rw q at (g .fits i is .phase-fits) in
-        let f : PhaseFacts (slotAt (h .world .endpoint) i .paused) (Process r) = rw q at (facts-at i is (g .sound .state)) in
+        let f : PhaseFacts (h .world .endpoint .unit) (slotAt (h .world .endpoint) i .paused) (Process r) = rw q at (facts-at i is (g .sound .state)) in
         let long : 8 ≤ length (h .trace i .request) =
         rw (sym (k .held)) (rw (length-take-le (r .length) (storeAt (h .world) i) (rw (store-at i (g .sound)) (f .1))) (f .0)) in
         formed i (h .trace i .request) body is (long-kind (h .trace i .request) old (omega arith))
@@ -234,9 +235,9 @@ known-run [] h g i is k = k
 known-run (c ∷ cs) h g i is k = known-run cs (next c h) (good-next c h g) i is (known-next h g i is k c)
 
 pub responses-formed : ResponsesFormed
-responses-formed eid store0 store1 a b xs i is there =
-    by (known-run xs (start eid store0 store1) (good-start eid store0 store1 a b) i is (unfold start in (record { asked = nothing refl; fixed = none refl })) .fixed)
+responses-formed eid unit store0 store1 a b xs i is there =
+    by (known-run xs (start eid unit store0 store1) (good-start eid unit store0 store1 a b) i is (unfold start in (record { asked = nothing refl; fixed = none refl })) .fixed)
   where
-    by : Fine (run xs (start eid store0 store1) .trace i .response) → WellFormed true (run xs (start eid store0 store1) .trace i .response)
+    by : Fine (run xs (start eid unit store0 store1) .trace i .response) → WellFormed true (run xs (start eid unit store0 store1) .trace i .response)
     by (none e) = absurd (there e)
     by (some w) = w

@@ -2,7 +2,7 @@
 -- Assumes nothing.
 use Prim.Native.Nat.{ℕ, _+_, _/_, _%_, _≤_}
 use mathlib.Core.Path.{_≡_, refl, sym, ap, _∙_}
-use mathlib.Core.Bool.{true}
+use mathlib.Core.Bool.{true, false}
 use mathlib.Core.List.{List, [], _∷_, _++_}
 use native.Mathlib.Nat.{mod-lt, mod-eq-of-lt, zero-lt-suc, zero-add}
 use native.Mathlib.Omega.{arith}
@@ -79,9 +79,11 @@ module _ (s : Side) (v : Valid (s .requester)) (size : length (s .store) ≡ 422
       let b = reply-bits tag in
       let c = csi-bits i is in
       let f = first-bytes 0x84 (128 + i) body in
+      let fits : ltb (s .requester .unit + 4) 16 ≡ false = le-ltb (s .requester .unit + 4) 16 (omega (arith, v .unit-least)) in
       rw (
         size,
         twelve,
+        fits,
         eq-eqb to (s .requester .eid) ours,
         b .3,
         b .2,
@@ -110,6 +112,7 @@ module _ (s : Side) (v : Valid (s .requester)) (size : length (s .store) ≡ 422
         came =
             record {
               eid-same = k .eid-is;
+              unit-same = k .unit-is;
               nothing-awaited = nothing (received s packet .side .requester .awaiting) (k .key-is);
               store-is =
                   k .store-is ∙ ap (λ (n : ℕ). put (s .store) n (replyWith i body)) (place-first packet (s .requester .awaiting) som)
@@ -176,27 +179,27 @@ module _ (w : World) (ok : Sound w) (r : Requester) (tag : ℕ) (p : Primitive) 
   answered-so goes = record { done = ap number answer-two; replied = replied-so; comes-back = λ ys. comes-back-by (replyFate 0 ys after) (goes ys) }
 
 -- the reply that waits after a packet of a list goes
-goes : (eid : ℕ) (store0 store1 : List ℕ) → length store0 ≡ 4224 → length store1 ≡ 4224 → (xs : List Call) (packet : List ℕ)
-    → let w = run xs (start eid store0 store1) .world in
+goes : (eid unit : ℕ) (store0 store1 : List ℕ) → length store0 ≡ 4224 → length store1 ≡ 4224 → (xs : List Call) (packet : List ℕ)
+    → let w = run xs (start eid unit store0 store1) .world in
     receivedAt w packet .world .endpoint .«reply_waits» ≡ true
     → (ys : List Call) → GoesWithin 2 (receivedAt w packet .world .endpoint) (replyFate 0 ys (receivedAt w packet .world))
-goes eid store0 store1 a b xs packet waits ys =
-    let h = run xs (start eid store0 store1) in
-    let later : run (xs ++ (receive packet ∷ [])) (start eid store0 store1) .world ≡ receivedAt (h .world) packet .world =
-    ap (λ (k : History). k .world) (run-then xs (receive packet) (start eid store0 store1)) ∙ world-then h in
-    rw later at (reply-goes eid store0 store1 a b (xs ++ (receive packet ∷ [])) (rw later waits) ys)
+goes eid unit store0 store1 a b xs packet waits ys =
+    let h = run xs (start eid unit store0 store1) in
+    let later : run (xs ++ (receive packet ∷ [])) (start eid unit store0 store1) .world ≡ receivedAt (h .world) packet .world =
+    ap (λ (k : History). k .world) (run-then xs (receive packet) (start eid unit store0 store1)) ∙ world-then h in
+    rw later at (reply-goes eid unit store0 store1 a b (xs ++ (receive packet ∷ [])) (rw later waits) ys)
   where
     world-then : (h : History) → next (receive packet) h .world ≡ receivedAt (h .world) packet .world
     world-then h = unfold next step in refl
 
 pub primitive-answered : PrimitiveAnswered
-primitive-answered eid store0 store1 a b xs r tag p buffer t sl room =
-    let h = run xs (start eid store0 store1) in
+primitive-answered eid unit store0 store1 a b xs r tag p buffer v t sl room =
+    let h = run xs (start eid unit store0 store1) in
     let w = h .world in
-    let ok = good-every eid store0 store1 a b xs .sound in
-    let c = primitive-so r (w .endpoint .eid) tag p buffer in
+    let ok = good-every eid unit store0 store1 a b xs .sound in
+    let c = primitive-so r (w .endpoint .eid) tag p buffer v in
     let done : primitiveNumbers tag p buffer ≡ (0, 16 ∷ []) = rw (le-ltb 7 tag t, le-ltb 1 (p .slot) sl, le-ltb (length buffer) 16 room) refl in
     let there = c .packet-is (ap (λ (n : ℕ × List ℕ). eqb (n .0) 0) done) in (
       c .wrote .number-is ∙ done,
-      rw there (answered-so w ok r tag p t sl (goes eid store0 store1 a b xs (request w ok r tag p t sl) (replied-so w ok r tag p t sl .waits))),
+      rw there (answered-so w ok r tag p t sl (goes eid unit store0 store1 a b xs (request w ok r tag p t sl) (replied-so w ok r tag p t sl .waits))),
     )

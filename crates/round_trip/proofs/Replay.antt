@@ -15,7 +15,7 @@ use Rattle.mctp.specs.Cut.{cut}
 use Rattle.mctp.specs.declared.Route.{Route}
 use Rattle.nvme_mi.specs.Check.{withCheck}
 use Rattle.machine.specs.Calls.{Call, receive, step}
-use Rattle.machine.specs.History.{History, phaseAt, isTransmit, traceAfter, next, run, start, cuts, lastPacketOut}
+use Rattle.machine.specs.History.{History, phaseAt, isTransmit, traceAfter, unitOf, next, run, start, cuts, lastPacketOut}
 use Rattle.machine.specs.Demands.{isProcess, isAnswered, Fate, cut as cut-off, delivered, fate, routeOf}
 use Rattle.machine.specs.Replays.{heldAt, isReplay, SentAgain}
 use Rattle.machine.specs.declared.Response.{Response}
@@ -24,9 +24,9 @@ use Rattle.machine.specs.declared.Phase.{Phase}
 use Rattle.machine.specs.declared.Phase.the-variants.{Idle, Receive, Process, Answered, Transmit}
 use Rattle.machine.proofs.Fits.{Entry, entered, stayed}
 use Rattle.machine.proofs.Tickets.{accepted}
-use Rattle.machine.proofs.Histories.{Good, kept-by, good-next, good-every}
+use Rattle.machine.proofs.Histories.{Good, kept-by, next-unit, good-next, good-every}
 use Rattle.machine.proofs.Responses.{Turned, kept, came-in, answered, turned}
-use Rattle.machine.proofs.Identity.{run-eid, next-eid}
+use Rattle.machine.proofs.Identity.{run-eid, run-unit, next-eid}
 use Rattle.machine.proofs.Replays.{sent-again}
 use Rattle.controller.specs.Grounds.{isAwaited, primitiveNumbers, primitivePacket}
 use Rattle.controller.proofs.Calls.{primitive-so}
@@ -153,6 +153,9 @@ module _ (h : History) (g : Good h) (i : ℕ) (is : i ≤ 1) (unsent : isUnsent 
   same-eid : run zs d .world .endpoint .eid ≡ h .world .endpoint .eid
   same-eid = rw later (run-eid calls h g)
 
+  same-unit : run zs d .world .endpoint .unit ≡ h .world .endpoint .unit
+  same-unit = rw later (run-unit calls h g)
+
   same-bytes : (p : List ℕ) (r : Response) → heldAt (run zs d .world) i ≡ Last r → isReplay i (run zs d .world .endpoint .eid) p ≡ true → (us : List Call) (k : History)
       → fate i us (next (receive p) (run zs d)) ≡ delivered k → sentUntil i us (next (receive p) (run zs d)) ≡ sentUntil i ys h
   same-bytes p r e acted us k again =
@@ -165,11 +168,12 @@ module _ (h : History) (g : Good h) (i : ℕ) (is : i ≤ 1) (unsent : isUnsent 
       let response-is : k₁ .trace i .response ≡ h .trace i .response = s .same-response ∙ still .same alone .0 in
       let route-is : routeOf k₁ i ≡ routeOf h i =
       routes i h k₁ (next-eid (receive p) m gm ∙ same-eid) (s .same-requester ∙ since .asker alone .0) (s .same-tag ∙ since .asker alone .1) in
-      second ∙ ap (λ (x : Route). cut 64 x (k₁ .trace i .response)) route-is ∙ ap (cut 64 (routeOf h i)) response-is ∙ sym first
+      second ∙ ap (λ (u : ℕ). cut u (routeOf k₁ i) (k₁ .trace i .response)) (next-unit (receive p) m gm ∙ same-unit)
+      ∙ ap (λ (x : Route). cut (unitOf (h .world)) x (k₁ .trace i .response)) route-is ∙ ap (cut (unitOf (h .world)) (routeOf h i)) response-is ∙ sym first
 
 pub replay-same : ReplaySame
-replay-same eid store0 store1 a b xs i is unsent ys d out zs p r alone e acted us k again =
-    same-bytes (run xs (start eid store0 store1)) (good-every eid store0 store1 a b xs) i is unsent ys d out zs alone p r e acted us k again
+replay-same eid unit store0 store1 a b xs i is unsent ys d out zs p r alone e acted us k again =
+    same-bytes (run xs (start eid unit store0 store1)) (good-every eid unit store0 store1 a b xs) i is unsent ys d out zs alone p r e acted us k again
 
 -- ---- from the requester's primitive on
 
@@ -180,34 +184,36 @@ is-replay eid source tag i primitive-tag t is =
     rw (is-control eid source tag (replayOf i primitive-tag) t is, one, eq-eqb i i refl) refl
 
 pub replay-returns : ReplayReturns
-replay-returns eid store0 store1 a b xs i is held e r tag primitive-tag buffer t room =
-    let h = run xs (start eid store0 store1) in
-    let g = good-every eid store0 store1 a b xs in
+replay-returns eid unit store0 store1 a b xs i is held e r tag primitive-tag buffer v t room =
+    let h = run xs (start eid unit store0 store1) in
+    let g = good-every eid unit store0 store1 a b xs in
     let own = h .world .endpoint .eid in
-    let c = primitive-so r own tag (replayOf i primitive-tag) buffer in
+    let c = primitive-so r own tag (replayOf i primitive-tag) buffer v in
     let done : primitiveNumbers tag (replayOf i primitive-tag) buffer ≡ (0, 16 ∷ []) = rw (le-ltb 7 tag t, le-ltb 1 i is, le-ltb (length buffer) 16 room) refl in
     let there = c .packet-is (ap (λ (n : ℕ × List ℕ). eqb (n .0) 0) done) in
     let p = primitivePacket (r .eid) own tag (replayOf i primitive-tag) in
     let s = sent-again h g p i is (is-replay own (r .eid) tag i primitive-tag t is) held e in
-    (c .wrote .number-is ∙ done, rw there (record { sent-again = s; returned = λ ys k out. back eid store0 store1 a b xs i is p s ys k out }))
+    (c .wrote .number-is ∙ done, rw there (record { sent-again = s; returned = λ ys k out. back eid unit store0 store1 a b xs i is p s ys k out }))
   where
-    back : (eid : ℕ) (store0 store1 : List ℕ) → length store0 ≡ 4224 → length store1 ≡ 4224 → (xs : List Call) (i : ℕ) → i ≤ 1 → (p : List ℕ)
-        → SentAgain (run xs (start eid store0 store1)) i p → (ys : List Call) (k : History) → fate i ys (next (receive p) (run xs (start eid store0 store1))) ≡ delivered k
-        → Returned i (run xs (start eid store0 store1)) (sentUntil i ys (next (receive p) (run xs (start eid store0 store1))))
-    back eid store0 store1 a b xs i is p s ys k out =
-        let begin = start eid store0 store1 in
+    back : (eid unit : ℕ) (store0 store1 : List ℕ) → length store0 ≡ 4224 → length store1 ≡ 4224 → (xs : List Call) (i : ℕ) → i ≤ 1 → (p : List ℕ)
+        → SentAgain (run xs (start eid unit store0 store1)) i p → (ys : List Call) (k : History) → fate i ys (next (receive p) (run xs (start eid unit store0 store1))) ≡ delivered k
+        → Returned i (run xs (start eid unit store0 store1)) (sentUntil i ys (next (receive p) (run xs (start eid unit store0 store1))))
+    back eid unit store0 store1 a b xs i is p s ys k out =
+        let begin = start eid unit store0 store1 in
         let h = run xs begin in
-        let g = good-every eid store0 store1 a b xs in
+        let g = good-every eid unit store0 store1 a b xs in
         let k₁ = next (receive p) h in
         let join : run (xs ++ (receive p ∷ [])) begin ≡ k₁ = run-then xs (receive p) begin in
         let got : Returned i k₁ (sentUntil i ys k₁) =
-        rw join at (response-arrives eid store0 store1 a b (xs ++ (receive p ∷ [])) i is (rw join (again-unsent h i p s)) ys k (rw join out)) in
+        rw join at (response-arrives eid unit store0 store1 a b (xs ++ (receive p ∷ [])) i is (rw join (again-unsent h i p s)) ys k (rw join out)) in
         let route-is : routeOf k₁ i ≡ routeOf h i = routes i h k₁ (next-eid (receive p) h g) (s .same-requester) (s .same-tag) in
         record {
-          packets-are = got .packets-are ∙ ap (λ (x : Route). cut 64 x (k₁ .trace i .response)) route-is ∙ ap (cut 64 (routeOf h i)) (s .same-response);
+          packets-are =
+              got .packets-are ∙ ap (λ (u : ℕ). cut u (routeOf k₁ i) (k₁ .trace i .response)) (next-unit (receive p) h g)
+              ∙ ap (λ (x : Route). cut (unitOf (h .world)) x (k₁ .trace i .response)) route-is ∙ ap (cut (unitOf (h .world)) (routeOf h i)) (s .same-response);
           gathered =
-              λ q v size ours awaited.
-              rw (s .same-response) at (got .gathered q v size (ours ∙ sym (s .same-requester))
+              λ q v size ours one awaited.
+              rw (s .same-response) at (got .gathered q v size (ours ∙ sym (s .same-requester)) (one ∙ sym (next-unit (receive p) h g))
               (ap (λ (x : ℕ). isAwaited x (k₁ .trace i .tag) (q .requester .awaiting)) (next-eid (receive p) h g)
               ∙ ap (λ (x : ℕ). isAwaited (h .world .endpoint .eid) x (q .requester .awaiting)) (s .same-tag) ∙ awaited));
         }

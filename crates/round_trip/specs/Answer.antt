@@ -8,7 +8,7 @@ use mathlib.Core.List.{List, []}
 use lib.ListN.{length}
 use Rattle.opening.specs.Formed.{WellFormed}
 use Rattle.machine.specs.Calls.{Call, take!, complete, number, given, step}
-use Rattle.machine.specs.History.{History, phaseAt, responseFor, fixedAtEntry, next, run}
+use Rattle.machine.specs.History.{History, phaseAt, responseFor, fixedAtEntry, unitOf, next, run}
 use Rattle.machine.specs.Demands.{Every, isIdleNow, fate, delivered}
 use Rattle.machine.specs.Replies.{csiOf}
 use Rattle.machine.specs.declared.Ticket.{Ticket}
@@ -21,7 +21,7 @@ use Rattle.round_trip.specs.Response.{sentUntil}
 
 -- the history once the requester's packets of a command were received
 abbrev pub asked : History → Side → ℕ → List ℕ → List ℕ → History
-asked h s tag m buffer = run (receives (packetsIn m (cutTo (s .requester) (h .world .endpoint .eid) tag m buffer))) h
+asked h s tag m buffer = run (receives (packetsIn (s .requester .unit) m (cutTo (s .requester) (h .world .endpoint .eid) tag m buffer))) h
 
 -- then: any calls `us`, a take of slot i, any calls `ys`, and a completion
 abbrev pub afterTake : ℕ → List Call → History → History
@@ -43,10 +43,10 @@ ComesBack s i m h =
     → step (complete i t body) (beforeCompletion i us ys h .world) .event ≡ number 0 → fate i zs (completed i us ys t body h) ≡ delivered d
     → Gathered s (responseFor i m body) (sentUntil i zs (completed i us ys t body h))
 
--- Any list of calls from any setup. A requester that awaits the endpoint's EID and a tag cuts a well-formed command under that tag, while the command's slot
+-- Any list of calls from any setup. A requester with the endpoint's unit that awaits the endpoint's EID and a tag cuts a well-formed command under that tag, while the command's slot
 -- is Idle and where no test at entry answers; the endpoint receives the packets. What then comes back is the response to that very command.
 abbrev pub AnswerReturns : Type 0
 AnswerReturns =
-    Every (λ h. (s : Side) (tag : ℕ) (m buffer : List ℕ) → Valid (s .requester) → length (s .store) ≡ 4224
-    → isAwaited (h .world .endpoint .eid) tag (s .requester .awaiting) ≡ true → WellFormed false m → sizeOf m ≤ length buffer
+    Every (λ h. (s : Side) (tag : ℕ) (m buffer : List ℕ) → Valid (s .requester) → length (s .store) ≡ 4224 → s .requester .unit ≡ unitOf (h .world)
+    → isAwaited (h .world .endpoint .eid) tag (s .requester .awaiting) ≡ true → WellFormed false m → sizeOf (s .requester .unit) m ≤ length buffer
     → isIdleNow (phaseAt (h .world) (csiOf m)) ≡ true → fixedAtEntry (csiOf m) m ≡ [] → ComesBack s (csiOf m) m (asked h s tag m buffer))

@@ -12,7 +12,7 @@ use Rattle.opening.specs.Formed.{WellFormed}
 use Rattle.machine.specs.State.{World, slotAt, storeAt}
 use Rattle.machine.specs.Valid.{Sound}
 use Rattle.machine.specs.Calls.{Call, receive, take!, read, number, given, part-read, step, events}
-use Rattle.machine.specs.History.{phaseAt, receivesFrom, kindOf, fixedAtEntry}
+use Rattle.machine.specs.History.{phaseAt, receivesFrom, kindOf, fixedAtEntry, unitOf, overUnit}
 use Rattle.machine.specs.Demands.{isIdleNow}
 use Rattle.machine.specs.Replies.{csiOf}
 use Rattle.machine.specs.declared.Ticket.{Ticket}
@@ -21,8 +21,9 @@ use Rattle.machine.specs.declared.Request.{Request}
 use Rattle.machine.specs.declared.Held.the-variants.{NoResponse}
 use Rattle.machine.specs.declared.Phase.{Phase}
 use Rattle.machine.specs.declared.Phase.the-variants.{Idle, Process}
+use Rattle.controller.specs.State.{Valid}
 use Rattle.controller.specs.Send.{sendSays, cutTo}
-use Rattle.controller.specs.Grounds.{countOf, sizeOf, packetsIn}
+use Rattle.controller.specs.Grounds.{sizeOf, packetsIn}
 use Rattle.controller.specs.declared.Requester.{Requester}
 
 -- ---- lists of calls on the endpoint
@@ -62,7 +63,7 @@ pub record Arrived (w : World) (source tag : ℕ) (m : List ℕ) (ps : List (Lis
   -- 0 .. 0, 1; then taking gives the slot's next ticket, and the reading call hands back the command, byte for byte
   pub answered :
       events (receives ps ++ (take! (csiOf m) ∷ read (csiOf m) ∷ [])) w
-      ≡ replicate (countOf (length m) - 1) (number 0) ++ (number 1 ∷ given (nextOf w (csiOf m)) ∷ part-read m ∷ [])
+      ≡ replicate (overUnit (unitOf w) (length m) - 1) (number 0) ++ (number 1 ∷ given (nextOf w (csiOf m)) ∷ part-read m ∷ [])
   pub sound : Sound (worldAfter (receives ps) w)
   -- the slot is in Process with that command
   pub in-process : phaseAt (worldAfter (receives ps) w) (csiOf m) ≡ Process (commandOf source tag m)
@@ -72,11 +73,13 @@ pub record Arrived (w : World) (source tag : ℕ) (m : List ℕ) (ps : List (Lis
   -- the other slot: an assembly under this source and tag has ended, else its phase is as it was; so are its ticket and its store
   pub other-is : (j : ℕ) → j ≤ 1 → (j ≡ csiOf m → ⊥) → Untouched source tag w (worldAfter (receives ps) w) j
 
--- Any sound state and stores, the other slot anywhere; any requester, tag, and buffer that is long enough; any well-formed command that no test at entry
--- answers, while its slot is Idle. The cut is done, and its packets bring the command to the slot.
+-- Any sound state and stores, the other slot anywhere; any requester with the endpoint's unit ("2026-01 needs one U at both ends"), any tag, and a
+-- buffer that is long enough; any well-formed command that no test at entry answers, while its slot is Idle. The cut is done, and its packets bring the
+-- command to the slot.
 abbrev pub CommandArrives : Type 0
 CommandArrives =
-    (w : World) (r : Requester) (tag : ℕ) (m buffer : List ℕ) → Sound w → tag ≤ 7 → WellFormed false m → sizeOf m ≤ length buffer
+    (w : World) (r : Requester) (tag : ℕ) (m buffer : List ℕ) → Sound w → Valid r → r .unit ≡ unitOf w → tag ≤ 7 → WellFormed false m
+    → sizeOf (r .unit) m ≤ length buffer
     → isIdleNow (phaseAt w (csiOf m)) ≡ true → fixedAtEntry (csiOf m) m ≡ []
-    → (sendSays (cutTo r (w .endpoint .eid) tag m buffer .answer) ≡ (0, sizeOf m ∷ []))
-    × Arrived w (r .eid) tag m (packetsIn m (cutTo r (w .endpoint .eid) tag m buffer))
+    → (sendSays (cutTo r (w .endpoint .eid) tag m buffer .answer) ≡ (0, sizeOf (r .unit) m ∷ []))
+    × Arrived w (r .eid) tag m (packetsIn (r .unit) m (cutTo r (w .endpoint .eid) tag m buffer))

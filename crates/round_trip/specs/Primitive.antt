@@ -43,9 +43,9 @@ pub record Answered (r : Requester) (tag : ℕ) (w : World) (packet : List ℕ) 
       (ys : List Call)
       → ComesBack (r .eid) (w .endpoint .eid) tag (step (receive packet) w .world .endpoint .reply) (replyFate 0 ys (step (receive packet) w .world))
 
--- Any list of calls from any setup; any requester, tag, slot, opcode, TAG and CPSP; any buffer of at least 16 bytes; any later list of calls.
+-- Any list of calls from any setup; any requester, whatever its unit, since a primitive and its reply are one packet each at every unit; any tag, slot, opcode, TAG and CPSP; any buffer of at least 16 bytes; any later list of calls.
 abbrev pub PrimitiveAnswered : Type 0
 PrimitiveAnswered =
-    Every (λ h. (r : Requester) (tag : ℕ) (p : Primitive) (buffer : List ℕ) → tag ≤ 7 → p .slot ≤ 1 → 16 ≤ length buffer
+    Every (λ h. (r : Requester) (tag : ℕ) (p : Primitive) (buffer : List ℕ) → Valid r → tag ≤ 7 → p .slot ≤ 1 → 16 ≤ length buffer
     → (sendSays (primitiveTo r (h .world .endpoint .eid) tag p buffer .answer) ≡ (0, 16 ∷ []))
     × Answered r tag (h .world) (take 16 (primitiveTo r (h .world .endpoint .eid) tag p buffer .buffer)))

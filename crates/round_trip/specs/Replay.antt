@@ -12,6 +12,7 @@ use Rattle.machine.specs.Demands.{Every, fate, delivered}
 use Rattle.machine.specs.Replays.{heldAt, isReplay, SentAgain}
 use Rattle.machine.specs.declared.Response.{Response}
 use Rattle.machine.specs.declared.Held.the-variants.{Last}
+use Rattle.controller.specs.State.{Valid}
 use Rattle.controller.specs.Send.{sendSays, primitiveTo}
 use Rattle.controller.specs.declared.Primitive.{Primitive}
 use Rattle.controller.specs.declared.Requester.{Requester}
@@ -35,7 +36,7 @@ replayOf i tag = record { slot = i; opcode = 4; tag = tag; cpsp = 0 }
 -- a Replay in packet p of a slot that holds its response
 pub record ComesAgain (h : History) (i : ℕ) (p : List ℕ) : Type 0 where
   pub sent-again : SentAgain h i p
-  -- where the last packet is handed out again, any requester that has the EID from which the command came and awaits the endpoint's EID and the
+  -- where the last packet is handed out again, any requester that has the endpoint's unit and the EID from which the command came, and awaits the endpoint's EID and the
   -- command's tag gathers the response
   pub returned : (ys : List Call) (k : History) → fate i ys (next (receive p) h) ≡ delivered k → Returned i h (sentUntil i ys (next (receive p) h))
 
@@ -44,7 +45,7 @@ pub record ComesAgain (h : History) (i : ℕ) (p : List ℕ) : Type 0 where
 -- `replay-arrives` that the last packet is handed out.)
 abbrev pub ReplayReturns : Type 0
 ReplayReturns =
-    Every (λ h. (i : ℕ) → i ≤ 1 → (held : Response) → heldAt (h .world) i ≡ Last held → (r : Requester) (tag primitive-tag : ℕ) (buffer : List ℕ) → tag ≤ 7
+    Every (λ h. (i : ℕ) → i ≤ 1 → (held : Response) → heldAt (h .world) i ≡ Last held → (r : Requester) (tag primitive-tag : ℕ) (buffer : List ℕ) → Valid r → tag ≤ 7
     → 16 ≤ length buffer
     → (sendSays (primitiveTo r (h .world .endpoint .eid) tag (replayOf i primitive-tag) buffer .answer) ≡ (0, 16 ∷ []))
     × ComesAgain h i (take 16 (primitiveTo r (h .world .endpoint .eid) tag (replayOf i primitive-tag) buffer .buffer)))

@@ -11,7 +11,7 @@ use Rattle.lent.specs.Choice.{if_then_else_}
 use Rattle.mctp.specs.Cut.{cut}
 use Rattle.opening.specs.Formed.{WellFormed}
 use Rattle.machine.specs.Calls.{Call, Event, number, given, part-read, handed-out, step}
-use Rattle.machine.specs.History.{History, phaseAt, isTransmit, isPacketOf, next, lastPacketOut}
+use Rattle.machine.specs.History.{History, phaseAt, isTransmit, isPacketOf, unitOf, next, lastPacketOut}
 use Rattle.machine.specs.Demands.{Every, fate, delivered, routeOf, isAnswered}
 use Rattle.controller.specs.State.{Side, Valid}
 use Rattle.controller.specs.Grounds.{isAwaited}
@@ -45,9 +45,9 @@ sentUntil i (c ∷ cs) h = packetFrom i c h ++ (if lastPacketOut i c h then [] e
 -- slot i's packets are those of the response that belongs to its ticket, cut for the requester of its command; and the requester gathers them: 0 .. 0,
 -- then 1 with the length, the response at the store's front, nothing awaited
 pub record Returned (i : ℕ) (h : History) (ps : List (List ℕ)) : Type 0 where
-  pub packets-are : ps ≡ cut 64 (routeOf h i) (h .trace i .response)
+  pub packets-are : ps ≡ cut (unitOf (h .world)) (routeOf h i) (h .trace i .response)
   pub gathered :
-      (s : Side) → Valid (s .requester) → length (s .store) ≡ 4224 → s .requester .eid ≡ h .trace i .requester
+      (s : Side) → Valid (s .requester) → length (s .store) ≡ 4224 → s .requester .eid ≡ h .trace i .requester → s .requester .unit ≡ unitOf (h .world)
       → isAwaited (h .world .endpoint .eid) (h .trace i .tag) (s .requester .awaiting) ≡ true → Gathered s (h .trace i .response) ps
 
 -- a response is there and no packet of it went: it waits in Process under its slot's flag, or is in Transmit
@@ -55,9 +55,9 @@ abbrev pub isUnsent : ℕ → History → Bool
 isUnsent i h = isAnswered (phaseAt (h .world) i) || (isTransmit (phaseAt (h .world) i) && eqb (h .trace i .packets) 0)
 
 -- Any list of calls from any setup, after which slot i has a response of which no packet went; any later list along which its last packet is handed
--- out, whatever else is called between (it is by the 264th counted poll, unless the slot is aborted or the endpoint reset first: `demand-3`, and for one
--- that waits `answer-arrives` and `error-arrives`). Any requester that has the EID from which the command came and awaits the endpoint's EID and the
--- command's tag; the slot's packets come to it with no other call between.
+-- out, whatever else is called between (it is by the last of `mostPolls` counted polls, unless the slot is aborted or the endpoint reset first:
+-- `demand-3`, and for one that waits `answer-arrives` and `error-arrives`). Any requester that has the endpoint's unit and the EID from which the
+-- command came, and awaits the endpoint's EID and the command's tag; the slot's packets come to it with no other call between.
 abbrev pub ResponseArrives : Type 0
 ResponseArrives =
     Every (λ h. (i : ℕ) → i ≤ 1 → isUnsent i h ≡ true → (ys : List Call) (k : History) → fate i ys h ≡ delivered k → Returned i h (sentUntil i ys h))

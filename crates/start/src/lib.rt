@@ -7,13 +7,13 @@ use machine::Done;
 use machine::Endpoint;
 use machine::FIRST_EID;
 use machine::Held;
-use machine::LAST_EID;
 use machine::Phase;
 use machine::Slot;
 use machine::Ticket;
 use machine::answers;
 use machine::flags::RESET_SEEN;
 use machine::sizes::CONTROL_SIZE;
+use machine::sizes::LEAST_UNIT;
 
 // An Idle slot with nothing but its ticket count.
 fn fresh(ticket: Ticket) -> Slot
@@ -27,13 +27,14 @@ fn fresh(ticket: Ticket) -> Slot
     }
 }
 
-// All zero but the EID, the flags and the ticket counts.
-fn started(eid: u8, flags: u16, first: Ticket, second: Ticket) -> Endpoint
-    ensures { λ r. ⌜ r ≡ Finish·started eid flags first second ⌝ }
+// All zero but the EID, the unit, the flags and the ticket counts.
+fn started(eid: u8, unit: u8, flags: u16, first: Ticket, second: Ticket) -> Endpoint
+    ensures { λ r. ⌜ r ≡ Finish·started eid unit flags first second ⌝ }
 {
     let slots = [fresh(first), fresh(second)];
     Endpoint {
         eid,
+        unit,
         slots,
         flags,
         reply: [0; CONTROL_SIZE],
@@ -45,31 +46,32 @@ fn started(eid: u8, flags: u16, first: Ticket, second: Ticket) -> Endpoint
     }
 }
 
-// A new endpoint with this EID.
-fn initial(eid: u8) -> Endpoint
-    ensures { λ r. ⌜ r ≡ Finish·initial eid ⌝ }
+// A new endpoint with this EID and this unit.
+fn initial(eid: u8, unit: u8) -> Endpoint
+    ensures { λ r. ⌜ r ≡ Finish·initial eid unit ⌝ }
 {
-    started(eid, 0, Ticket(0), Ticket(0))
+    started(eid, unit, 0, Ticket(0), Ticket(0))
 }
 
-// A new endpoint with this EID, from 8 to 254. Else 38, and the endpoint has EID 8.
-pub fn setup(eid: u8) -> Done
-    ensures { λ r. ⌜ r ≡ wasSetUp eid ⌝ }
+// A new endpoint with this EID, from 8 to 254, else 38, and this unit, from 64 to 250, else 39. Beside either the endpoint has EID 8 and the unit 64.
+pub fn setup(eid: u8, unit: usize) -> Done
+    ensures { λ r. ⌜ r ≡ wasSetUp eid unit ⌝ }
     ensures { λ r. ⌜ Valid (r .endpoint) ⌝ }
 {
-    if eid < FIRST_EID || eid > LAST_EID {
+    let refusal = mctp::setup_refusal(eid, unit);
+    if refusal != answers::DONE {
         return Done {
-            answer: answers::WRONG_EID,
-            endpoint: initial(FIRST_EID),
+            answer: refusal,
+            endpoint: initial(FIRST_EID, LEAST_UNIT as u8),
         };
     }
     Done {
         answer: answers::DONE,
-        endpoint: initial(eid),
+        endpoint: initial(eid, unit as u8),
     }
 }
 
-// Both slots Idle, all flags but "reset seen" cleared, the control reply gone. The ticket counts stay.
+// Both slots Idle, all flags but "reset seen" cleared, the control reply gone. The EID, the unit and the ticket counts stay.
 pub fn reset(endpoint: Endpoint) -> Done
     requires { ⌜ Valid endpoint ⌝ }
     ensures { λ r. ⌜ r ≡ wasReset endpoint ⌝ }
@@ -79,6 +81,12 @@ pub fn reset(endpoint: Endpoint) -> Done
     let second = endpoint.slots[1];
     Done {
         answer: answers::DONE,
-        endpoint: started(endpoint.eid, RESET_SEEN, first.ticket, second.ticket),
+        endpoint: started(
+            endpoint.eid,
+            endpoint.unit,
+            RESET_SEEN,
+            first.ticket,
+            second.ticket,
+        ),
     }
 }

@@ -1,11 +1,12 @@
 // Taking a command, and reading it.
 ghost use mathlib.Core.Path.{_≡_};
+ghost use mathlib.Core.Bool.{true};
 ghost use lib.ListN.{length};
 ghost use Rattle.machine.specs.State.{world};
 ghost use Rattle.machine.specs.Wire.{store-size};
 ghost use Rattle.machine.specs.Finish.{taken, takeSays, partOf, part};
 ghost use Rattle.machine.specs.Numbers.{takeNumbers};
-ghost use Rattle.machine.specs.Valid.{PhaseFacts, Valid};
+ghost use Rattle.machine.specs.Valid.{messageFits, Valid};
 use machine::Endpoint;
 use machine::Phase;
 use machine::Request;
@@ -60,7 +61,7 @@ pub fn take(endpoint: Endpoint, slot: usize) -> TakeDone
 
 // The taken command of a slot at the front of its store; empty where there is none.
 fn part_of<'a>(store: &'a [u8], slot: Slot) -> &'a [u8]
-    requires { ⌜ (length (now store) ≡ store-size) × PhaseFacts (slot .paused) (slot .phase) ⌝ }
+    requires { ⌜ (length (now store) ≡ store-size) × (messageFits (slot .phase) ≡ true) ⌝ }
     ensures { λ r. ⌜ now r ≡ partOf (now (store .entry)) (slot .phase) ⌝ }
 {
     let phase = slot.phase;

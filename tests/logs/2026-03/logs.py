@@ -5,8 +5,8 @@ under tag 1 or 3, and a Replay comes from EID 9 under tag 2, unless the log is a
 """
 from records import POLL, RESET, ask, command, complete, damaged, packet, packets, take, timeout
 from second.wire import ABORT, GET_STATE, MI, PAUSE, REPLAY, RESUME
-from steps import (BODY, COMMANDS, TAGS, Described, answered, refused, replied, response, sends, sent, shows,
-                   start)
+from steps import (BODY, COMMANDS, SLOTS, TAGS, Described, answered, refused, replied, response, sends, sent,
+                   shows, start)
 
 LOGS = Described()
 log = LOGS.add
@@ -14,7 +14,6 @@ log = LOGS.add
 TWO = bytes(range(57))                                # the body of a response of two packets
 FULL = bytes(range(120))                              # two full packets
 EARLIER = bytes(range(150))                           # three packets
-SLOTS = ((0, 1), (1, 0))                              # a slot, and the other one
 
 def ready(slot, body=BODY):
     """The slot's command, up to a response that is to be sent."""

@@ -7,17 +7,14 @@ EID 9 and the endpoint EID 8; else the requester is EID 8 and is answered from E
 from call_records import (LOOK, REQUESTER_LOOK, RESET, await_from, complete, cut_message, gather, gather_all,
                           poll, primitive, read, receive, receive_all, requester_setup, requester_store, room,
                           setup, stores, take)
-from call_steps import NOTHING, SHORT, TAKEN, carried, looks, over, polled, reply, requester_looks, written
+from call_steps import (AWAITED, NOTHING, SHORT, TAKEN, back, carried, looks, over, polled, reply,
+                        requester_looks, written)
 from records import ask, command, control, damaged, packet, packets, record
 from second.wire import ABORT, GET_STATE, PAUSE, RESUME, sealed
 from steps import BODY, MI_COMMAND, Described, answered, cut, replied, response, sent
 
 SCRIPTS = Described()
 script = SCRIPTS.add
-
-def back(payload, **fields):
-    """A packet that the requester is given: TO is 0."""
-    return packet(payload, to=0, **fields)
 
 def later(payload, eom=1, **fields):
     return back(payload, som=0, eom=eom, **fields)
@@ -39,7 +36,6 @@ FAR_SLOTS = (2, 3, 255, 256, 257, 65536, 65537, 1 << 31, (1 << 31) + 1, (1 << 32
 LAST_OPEN = later(FULL[-64:], eom=0, sequence=65)     # the 66th without EOM
 
 # Steps that many scripts begin with, and what a look shows behind them
-AWAITED = (await_from(), 0),
 OPEN = *AWAITED, (gather(FIRST), 0)
 IS_AWAITED, IS_OPEN = dict(awaits="9:1"), dict(awaits="9:1", assembly="0:64", store=GATHERED)
 FILLED = *AWAITED, (gather_all(packets(FULL, to=0)[:-1]), [0] * 65), (gather(LAST_OPEN), 0)

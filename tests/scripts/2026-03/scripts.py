@@ -6,26 +6,21 @@ in a script the requester is EID 9 and the endpoint EID 8.
 """
 from call_records import (RESET, await_from, complete, cut_message, poll, primitive, read, receive,
                           receive_all, requester_setup, setup, stores, take, timeout)
-from call_steps import (NOTHING, SHORT, TAKEN, WRONG_STORES, carried, looks, over, polled, reply,
+from call_steps import (NOTHING, SHORT, TAKEN, WRONG_STORES, carried, looks, over, polls, reply,
                         requester_looks, written)
 from records import ask, command, control, damaged, packet, packets
 from second.wire import ABORT, GET_STATE, PAUSE, REPLAY, RESUME
-from steps import BODY, COMMANDS, TAGS, Described, refused, replied, response, sends, sent, start
+from steps import BODY, COMMANDS, SLOTS, TAGS, Described, refused, replied, response, sends, sent, start
 
 SCRIPTS = Described()
 script = SCRIPTS.add
 
 TWO = bytes(range(57))                                # the body of a response of two packets
 LONG = bytes(i % 253 for i in range(4216))            # 66 packets
-SLOTS = ((0, 1), (1, 0))                              # a slot, and the other one
 FLAGS = {11: 0x40, 12: 0x80, 13: 0x100, 14: 0x1000, 16: 0x200, 19: 0x10, 21: 0x400}
 
 def taken(slot):
     return (receive(COMMANDS[slot]), 1), (take(slot), "0 1")
-
-def polls(*lines):
-    """Polls that hand out the packets of these lines of a log."""
-    return [poll()] * len(lines), [polled(line) for line in lines]
 
 def done(slot, body=TWO):
     """The slot's command, its response sent whole: the slot is Idle and holds it."""

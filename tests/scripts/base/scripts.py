@@ -350,7 +350,7 @@ script("length-8192", (receive(record(1, bytes(8192))), 11), (complete(0, bytes(
 script("length-0", (receive(record(1)), 10), (complete(0, b""), 31), looks())
 for tag in (0, 1, 6, 15, 26, 31, 255):
     script(f"bad-tag-{tag}", (poll(), NOTHING), ([record(tag), LOOK], "bad"))
-for name, right, *wrong in (("setup", setup(), 0, 2, 3), ("stores", stores(), 0, 3, 5),
+for name, right, *wrong in (("setup", setup(), 0, 2), ("stores", stores(), 0, 3, 5),
                             ("take", take(), 0, 1, 3, 5), ("read", read(), 0, 1, 3, 5),
                             ("complete", complete(0, b""), 0, 4, 7, 8193), ("poll", poll(), 0, 1, 3),
                             ("timeout", timeout(), 0, 1, 3, 5), ("reset", RESET, 1), ("look", LOOK, 1),

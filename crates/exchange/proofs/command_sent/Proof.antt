@@ -1,14 +1,14 @@
--- `exchange::command_sent` keeps the invariant: the packets of a command of 100 bytes have 108 bytes, and so has the buffer.
+-- `exchange::command_sent` keeps the invariant: what the cut wrote lies in the buffer.
 -- Assumes nothing.
-use mathlib.Core.Path.{_≡_, refl, _∙_}
+use Prim.Native.Nat.{_≤_}
 use native.Mathlib.Omega.{arith}
-use lib.ListN.{length, length-take}
+use lib.ListN.{length-take, replicate}
 use borrow.Author.Needs.{needs}
-use Rattle.exchange.proofs.Count.{count-is}
+use Rattle.controller.proofs.Fits.{cut-fits}
 use Rattle.exchange.proofs.command_sent.Statement.{statement}
 use Rattle.exchange.proofs.command_sent.Tie as tie
 
--- points of the code: where the packets' bytes are told, behind the call, and where the check is written
+-- points of the code: where the packets' bytes are told, behind the call, where the check is written, and the start
 abbrev told : tie.After-all-received-arg2 → tie.After-answer
 told c = c .before .before .before .before .before
 
@@ -18,18 +18,17 @@ called t = t .before .before .before
 abbrev checked : tie.After-cut → tie.After-write-check
 checked p = p .before .before .before .before
 
-count : (c : tie.After-all-received-arg2) → told c .answer .given .0 .0 ≡ 108
-count c =
+most : (c : tie.After-all-received-arg2) → told c .answer .given .0 .0 ≤ 308
+most c =
     let t = told c in
     let p = called t in
-    let size : length (checked p .write-check .last .0) ≡ 100 = search needs in
-    count-is (t .answer .given .1) (p .cut .ensures .1 ∙ rw size refl)
+    cut-fits _ _ _ _ (replicate 308 0) _ (search needs) (p .cut .ensures .0) _ (t .answer .given .1)
 
 array-share-prefix-buffer : tie.Need-array-share-prefix-buffer
-array-share-prefix-buffer c = omega (arith, count c)
+array-share-prefix-buffer c = omega (arith, most c)
 
 slice-aggregate-all-received : tie.Need-slice-aggregate-all-received
-slice-aggregate-all-received c = simp length-take (omega (arith, count (c .before)))
+slice-aggregate-all-received c = simp length-take (omega (arith, most (c .before)))
 
 pub command-sent-spec : {M : Type 1} → statement M
 command-sent-spec =

@@ -19,13 +19,13 @@ polled t = t .before .before .before .before .before
 abbrev start : tie.After-poll → tie.Start
 start p = p .before .before .before .before .before
 
-most : (c : tie.After-gathered-arg) → told c .answer .given .0 .0 ≤ 68
+most : (c : tie.After-gathered-arg) → told c .answer .given .0 .0 ≤ 254
 most c =
     let t = told c in
     let p = polled t in
     let a = start p .args in
     let w = world (a .endpoint) (a .store0 .now) (a .store1 .now) in
-    packet-fits w (replicate 68 0) _ (p .poll .ensures .0) (search needs) _ (t .answer .given .1)
+    packet-fits w (replicate 254 0) _ (p .poll .ensures .0) (search needs) _ (t .answer .given .1)
 
 array-share-prefix-buffer : tie.Need-array-share-prefix-buffer
 array-share-prefix-buffer c = omega (arith, most c)

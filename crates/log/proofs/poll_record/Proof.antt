@@ -5,6 +5,7 @@ use native.Mathlib.Omega.{arith}
 use lib.ListN.{replicate}
 use Rattle.machine.specs.State.{world}
 use Rattle.poll.proofs.Fits.{packet-fits}
+use Rattle.log_records.specs.Records.{packet-room}
 use Rattle.log.proofs.Told.{told-by}
 use Rattle.log.specs.Log.{pollLine}
 use Rattle.log.proofs.poll_record.Statement.{statement}
@@ -23,7 +24,7 @@ poll-line-requires c κs =
     let a = start p .args in
     let d = p .poll .result in (
       (search needs, search needs),
-      λ n e. let most = packet-fits (world (a .session .endpoint) (a .store0 .now) (a .store1 .now)) (replicate 68 0) _ (p .poll .ensures .0) (search needs) n e in
+      λ n e. let most = packet-fits (world (a .session .endpoint) (a .store0 .now) (a .store1 .now)) (replicate packet-room 0) _ (p .poll .ensures .0) (search needs) n e in
           omega arith,
     )
 

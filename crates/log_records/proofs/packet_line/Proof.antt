@@ -10,14 +10,14 @@ use lib.Seq.{sets-eq}
 use borrow.Author.Needs.{needs}
 use Rattle.lent.specs.Bytes.{put}
 use Rattle.lent.proofs.Stores.{length-put}
-use Rattle.log_records.specs.Records.{line-room, hex, packetLine}
+use Rattle.log_records.specs.Records.{packet-room, line-room, hex, packetLine}
 use Rattle.log_records.proofs.Laws.{put-put, length-hex}
 use Rattle.log_records.proofs.Laws.{Written}
 use Rattle.log_records.proofs.packet_line.Statement.{statement}
 use Rattle.log_records.proofs.packet_line.Tie as tie
 
 -- 1 and a space, the packet in hex, the newline
-written : (line middle packet : List ℕ) → line-room ≤ length line → length packet ≤ 68 → middle ≡ put (set (set line 0 49) 1 32) 2 (hex packet)
+written : (line middle packet : List ℕ) → line-room ≤ length line → length packet ≤ packet-room → middle ≡ put (set (set line 0 49) 1 32) 2 (hex packet)
     → Written (packetLine 1 packet) line (set middle (2 + 2 * length packet) 10) (2 + 2 * length packet + 1)
 written line middle packet room small e =
     let front : put (set (set line 0 49) 1 32) 2 (hex packet) ≡ put line 0 (49 ∷ 32 ∷ hex packet) =

@@ -8,6 +8,7 @@ use lib.ListN.{length, length-take}
 use borrow.Author.Needs.{needs}
 use borrow.Author.Tests.{not-true, not-false, leb-true, leb-false}
 use Rattle.lent.proofs.Choice.{false-true}
+use Rattle.log_records.specs.Records.{line-room}
 use Rattle.mi_log.specs.Run.{held}
 use Rattle.mi_log.proofs.Places.{not-written, has-room, asks-first, is-full, was-written}
 use Rattle.mi_log.proofs.with_room.Statement.{statement}
@@ -29,7 +30,7 @@ returns-2 c =
     let a = start e .args in
     let on = not-false (a .r .on) (e .if1 .left) in
     let more = not-true (a .r .more) (c .before .if2 .taken) in
-    let room = leb-true 139 (length (a .out .now) - a .r .put) (c .if3 .taken) in
+    let room = leb-true line-room (length (a .out .now) - a .r .put) (c .if3 .taken) in
     (λ input x y. let h = held (a .r) input (a .out .now) x y in not-written _ h (has-room h on more room), λ on. omega (arith, room))
 
 returns-3 : tie.Need-returns-3
@@ -41,7 +42,7 @@ returns-3 c =
       λ input x y. let h = held (a .r) input (a .out .now) x y in
           was-written _ h
           (⊎-elim
-          (λ w. is-full h on (not-true (a .r .more) (w .0 .taken)) (leb-false 139 (length (a .out .now) - a .r .put) (w .1 .left)))
+          (λ w. is-full h on (not-true (a .r .more) (w .0 .taken)) (leb-false line-room (length (a .out .now) - a .r .put) (w .1 .left)))
           (λ w. asks-first h on (not-false (a .r .more) (w .left)))
           (j .if2 .came)),
       λ on. search needs,

@@ -9,7 +9,7 @@ use lib.ListN.{length}
 use borrow.Author.Tests.{lt-ltb, le-ltb}
 use borrow.Author.Needs.{needs}
 use Rattle.machine.specs.State.{World, world}
-use Rattle.machine.specs.Wire.{packet-room, wrongStores}
+use Rattle.machine.specs.Wire.{packetRoom, wrongStores}
 use Rattle.machine.specs.Poll.{Polled, pollSays, polled}
 use Rattle.machine.specs.Numbers.{pollNumber}
 use Rattle.machine.specs.Valid.{Valid}
@@ -24,7 +24,7 @@ abbrev start : tie.After-wrong-stores → tie.Start
 start w = w .before .before .before .before
 
 abbrev stores-right : tie.After-ready → tie.Else1
-stores-right r = r .before .before
+stores-right r = r .before .before .before
 
 -- the endpoint and both stores, as they are lent
 abbrev lent : tie.Start → World
@@ -48,8 +48,9 @@ returns c = done (start (c .before)) (rw (sym (c .before .wrong-stores .ensures)
 returns-2 : tie.Need-returns-2
 unfolding polled
 returns-2 c =
-    let s = start (c .before .before) in
-    done s (rw (passed (c .before), lt-ltb (length (s .args .buffer .now)) packet-room (omega arith)))
+    let e = c .before .before in
+    let s = start (e .before) in
+    done s (rw (passed e, lt-ltb (length (s .args .buffer .now)) (packetRoom (s .args .endpoint)) (omega arith)))
 
 polled-by-requires : tie.Need-polled-by-requires
 polled-by-requires c κs =
@@ -65,9 +66,9 @@ returns-3 c =
     let r = call .before .before in
     let e = stores-right r in
     let s = start (e .before) in
-    done s (rw (passed e, le-ltb (length (s .args .buffer .now)) packet-room (omega arith), ← r .ready .ensures) (call .polled-by .ensures))
+    done s (rw (passed e, le-ltb (length (s .args .buffer .now)) (packetRoom (s .args .endpoint)) (omega arith), ← r .ready .ensures) (call .polled-by .ensures))
 
 pub poll-spec : {M : Type 1} → statement M
 poll-spec =
     tie.close
-    (tie.spec (λ c κs. search needs) returns returns-2 (λ c κs. search needs) polled-by-requires (λ c. search needs) returns-3)
+    (tie.spec (λ c κs. search needs) returns (λ c. search needs) (λ c. search needs) returns-2 (λ c κs. search needs) polled-by-requires (λ c. search needs) returns-3)

@@ -6,7 +6,8 @@ use mathlib.Core.Path.{_≡_, refl, sym, _∙_}
 use mathlib.Core.Logic.{⊎-elim}
 use native.Mathlib.Omega.{arith}
 use borrow.Author.Needs.{needs}
-use Rattle.machine.specs.Wire.{unit, store-size}
+use Rattle.mctp.specs.Setup.{most-unit}
+use Rattle.machine.specs.Wire.{store-size}
 use Rattle.machine.specs.Poll.{ready}
 use Rattle.machine.specs.Valid.{Valid}
 use Rattle.machine.specs.declared.Outgoing.{Outgoing}
@@ -20,11 +21,12 @@ use Rattle.poll.proofs.polled_by.Tie as tie
 
 -- the response that is ready has a packet left, and fits its store
 bounds : (e : Endpoint) → Valid e → {i : ℕ} {r : Outgoing} → ready e ≡ From i r
-    → (i < 2) × (unit * r .sent < r .response .length) × (r .response .length ≤ store-size)
+    → ((0 < e .unit) × (e .unit ≤ most-unit)) × ((i < 2) × (e .unit * r .sent < r .response .length) × (r .response .length ≤ store-size))
 bounds e v {i} {r} h =
     let k = ready-at e v h in
     let f = rw (k .sends) at (facts-at i (k .slot-is) v) in
-    (omega (arith, k .slot-is), f .0, f .1 .most)
+    let n = v .numbers in
+    ((omega (arith, n .unit-least), n .unit-most), (omega (arith, k .slot-is), f .0, f .1 .most))
 
 -- from a command packet that is ready
 abbrev start : tie.After-next → tie.Start
@@ -50,7 +52,8 @@ sent-command-requires : tie.Need-sent-command-requires
 sent-command-requires c κs =
     let n = c .before .before .before in
     let s = start n in
-    (bounds _ (s .pre .0 .0) (sym (s .pre .0 .1) ∙ n .next .given .1), s .pre .1)
+    let b = bounds _ (s .pre .0 .0) (sym (s .pre .0 .1) ∙ n .next .given .1) in
+    (b .0, (b .1, s .pre .1))
 
 returns-4 : tie.Need-returns-4
 returns-4 c =

@@ -39,5 +39,5 @@ returns c =
 pub sent-from-spec : {M : Type 1} → statement M
 sent-from-spec =
     tie.close
-    (tie.spec (λ c κs. search needs) slice-aggregate-write-packet write-packet-requires (λ c. search needs) (λ c. search needs)
+    (tie.spec (λ c. search needs) (λ c κs. search needs) slice-aggregate-write-packet write-packet-requires (λ c. search needs) (λ c. search needs)
     (λ c κs. search needs) (λ c. search needs) (λ c. search needs) (λ c κs. search needs) (λ c. search needs) returns)

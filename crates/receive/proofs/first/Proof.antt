@@ -15,17 +15,17 @@ use Rattle.receive.proofs.first.Tie as tie
 
 -- from what the message's bytes say
 abbrev start : tie.After-opened → tie.Start
-start o = o .before .before .before .before
+start o = o .before .before .before .before .before
 
 -- a control message
 module _ (t : tie.After-enum-told) where
-  is-control : let a = start (t .before .before) .args in opened 64 false (a .header) (a .message .now) ≡ Control
+  is-control : let a = start (t .before .before) .args in opened (a .endpoint .unit) false (a .header) (a .message .now) ≡ Control
   is-control = sym (t .before .before .opened .ensures) ∙ t .enum-told .given .1
 
   twelve : length (start (t .before .before) .args .message .now) ≡ 12
-  twelve = let a = start (t .before .before) .args in sized 64 false (a .header) (a .message .now) (omega arith) .0 is-control
+  twelve = let a = start (t .before .before) .args in sized (a .endpoint .unit) false (a .header) (a .message .now) (start (t .before .before) .pre .4) .0 is-control
 
-is-command : (t : tie.After-enum-told2) → let a = start (t .before .before) .args in opened 64 false (a .header) (a .message .now) ≡ Command
+is-command : (t : tie.After-enum-told2) → let a = start (t .before .before) .args in opened (a .endpoint .unit) false (a .header) (a .message .now) ≡ Command
 is-command t = sym (t .before .before .opened .ensures) ∙ t .enum-told2 .given .1
 
 returns : tie.Need-returns
@@ -51,7 +51,7 @@ returns-2 c =
 read-message-header-requires-2 : tie.Need-read-message-header-requires-2
 read-message-header-requires-2 c κs =
     let a = start (c .before .before) .args in
-    omega (arith, sized 64 false (a .header) (a .message .now) (omega arith) .1 (is-command c))
+    omega (arith, sized (a .endpoint .unit) false (a .header) (a .message .now) (start (c .before .before) .pre .4) .1 (is-command c))
 
 first-command-requires : tie.Need-first-command-requires
 first-command-requires c κs =
@@ -69,6 +69,6 @@ returns-3 c =
 pub first-spec : {M : Type 1} → statement M
 first-spec =
     tie.close
-    (tie.spec (λ c κs. search needs) (λ c. search needs) (λ c κs. search needs) (λ c. search needs) read-message-header-requires controlled-requires
+    (tie.spec (λ c. search needs) (λ c κs. search needs) (λ c. search needs) (λ c κs. search needs) (λ c. search needs) read-message-header-requires controlled-requires
     (λ c κs. search needs) (λ c. search needs) read-message-header-requires-2 (λ c. search needs) first-command-requires returns returns-2
     (λ c. search needs) (λ c. search needs) returns-3)

@@ -1,7 +1,7 @@
 -- `receive::receive` meets its contract: each way through it is a row of `received`, and the state keeps the invariant, as
 -- `received` does.
 -- Assumes nothing.
-use Prim.Native.Nat.{ℕ, _≤_}
+use Prim.Native.Nat.{ℕ, _+_, _≤_}
 use mathlib.Core.Bool.{true, false}
 use mathlib.Core.List.{List}
 use mathlib.Core.Path.{_≡_, sym, _∙_, ap}
@@ -15,8 +15,9 @@ use Rattle.mctp.specs.declared.Read.the-variants.{Packet}
 use Rattle.machine.proofs.Keeps.{received-valid, sizes}
 use Rattle.machine.specs.Receive.{endAssembly, first, later, received}
 use Rattle.machine.specs.State.{World, world, withEndpoint}
+use Rattle.machine.specs.Valid.{Valid}
 use Rattle.machine.specs.declared.Endpoint.{Endpoint}
-use Rattle.machine.specs.Wire.{unit, store-size, inward, wrongStores}
+use Rattle.machine.specs.Wire.{store-size, inward, wrongStores}
 use Rattle.lent.proofs.Kept.{kept}
 use Rattle.lent.proofs.Stores.{rest}
 use Rattle.mctp.proofs.Laws.{packet-sized}
@@ -33,7 +34,7 @@ abbrev start : tie.After-wrong-stores → tie.Start
 start w = w .before .before .before .before
 
 abbrev stores-right : tie.After-read → tie.Else1
-stores-right r = r .before .before .before
+stores-right r = r .before .before .before .before
 
 abbrev first-read : tie.After-end-assembly → tie.After-read
 first-read e = e .before .before .before .before
@@ -52,17 +53,17 @@ module _ (r : tie.After-read) where
   abbrev given : tie.Start
   given = start (stores-right r .before)
 
-  is-packet : readHeader (given .args .endpoint .eid) unit inward (given .args .packet .now) ≡ Packet (r .read .given .0 .0)
+  is-packet : readHeader (given .args .endpoint .eid) (given .args .endpoint .unit) inward (given .args .packet .now) ≡ Packet (r .read .given .0 .0)
   is-packet = sym (r .before .before .read-header .ensures .0) ∙ r .read .given .1
 
-  sized : (5 ≤ length (given .args .packet .now)) × (length (given .args .packet .now) ≤ 68)
-  sized = packet-sized (given .args .endpoint .eid) unit inward (given .args .packet .now) is-packet
+  sized : (5 ≤ length (given .args .packet .now)) × (length (given .args .packet .now) ≤ given .args .endpoint .unit + 4)
+  sized = packet-sized (given .args .endpoint .eid) (given .args .endpoint .unit) inward (given .args .packet .now) is-packet
 
   stores : (length (given .args .store0 .now) ≡ store-size) × (length (given .args .store1 .now) ≡ store-size)
   stores = sizes (lent given) (passed (stores-right r))
 
 -- the rows of a packet that is read: its first, and a later one
-module _ (w : World) (packet : List ℕ) (h : Header) (s : wrongStores w ≡ false) (r : readHeader (w .endpoint .eid) unit inward packet ≡ Packet h) where
+module _ (w : World) (packet : List ℕ) (h : Header) (s : wrongStores w ≡ false) (r : readHeader (w .endpoint .eid) (w .endpoint .unit) inward packet ≡ Packet h) where
   by-first : {e : Endpoint} → h .som ≡ true → e ≡ endAssembly (w .endpoint) (h .source) (h .tag)
       → first (withEndpoint w e) h (payloadOf packet) ≡ received w packet
   unfolding received
@@ -83,7 +84,7 @@ unfolding received
 returns-2 c =
     let told = c .before .before in
     let header = told .before .before in
-    let d = header .before in
+    let d = header .before .before in
     kept Stays (still (start (d .before)))
     (c .refused .ensures _ _
     ∙ rw (c .before .refusal-of .ensures ∙ ap (λ (x : Read). readSays x .0) (told .enum-told .given .1), passed d, sym (header .read-header .ensures .0) ∙ told .enum-told .given .1))
@@ -94,11 +95,23 @@ sub-payload c = omega (arith, sized (c .before))
 part-payload-start : tie.Need-part-payload-start
 part-payload-start c = omega (arith, sized (c .before))
 
+-- a whole message header fits a payload: ending an assembly keeps the unit
+wide : {e : Endpoint} (before : Endpoint) (source tag : ℕ) → Valid before → e ≡ endAssembly before source tag → 8 ≤ e .unit
+wide before source tag v q = rw q (unfold endAssembly in (omega (arith, v .numbers .unit-least)))
+
 first-requires : tie.Need-first-requires
 first-requires c κs =
     let r = first-read (c .before .before) in
     let k = stores r in
-    (k .0, k .1, simp (length-take, length-drop) (omega (arith, sized r)), simp (length-take, length-drop) (omega (arith, sized r)))
+    let n = given r .pre .numbers in
+    let z = sized r in
+    let h = r .read .given .0 .0 in (
+      k .0,
+      k .1,
+      simp (length-take, length-drop) (omega (arith, z)),
+      simp (length-take, length-drop) (omega (arith, z, n .unit-most)),
+      wide (given r .args .endpoint) (h .source) (h .tag) (given r .pre) (c .before .before .end-assembly .ensures),
+    )
 
 returns-3 : tie.Need-returns-3
 returns-3 c =
@@ -122,6 +135,6 @@ returns-4 c =
 pub receive-spec : {M : Type 1} → statement M
 receive-spec =
     tie.close
-    (tie.spec (λ c κs. search needs) (λ c κs. search needs) returns (λ c κs. search needs) (λ c. search needs) (λ c. search needs)
+    (tie.spec (λ c κs. search needs) (λ c κs. search needs) returns (λ c. search needs) (λ c κs. search needs) (λ c. search needs) (λ c. search needs)
     (λ c κs. search needs) (λ c κs. search needs) returns-2 sub-payload part-payload-start (λ c. search needs) (λ c κs. search needs)
     first-requires (λ c. search needs) (λ c. search needs) returns-3 later-requires (λ c. search needs) (λ c. search needs) returns-4)

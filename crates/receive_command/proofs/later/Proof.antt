@@ -23,7 +23,7 @@ use Rattle.receive_command.proofs.later.Tie as tie
 held : (e : Endpoint) → Valid e → (source tag : ℕ) {i : ℕ} {a : Assembly} → holder e source tag ≡ At i a → (i ≤ 1) × (a .length ≤ store-size)
 held e v source tag {i} {a} h =
     let k = holder-at e source tag h in
-    let facts : PhaseFacts (slotAt e i .paused) (Receive a) = rw (k .gathers-it) at (facts-at i (k .slot-is) v) in
+    let facts : PhaseFacts (e .unit) (slotAt e i .paused) (Receive a) = rw (k .gathers-it) at (facts-at i (k .slot-is) v) in
     (k .slot-is, facts .1)
 
 abbrev start : tie.After-holder → tie.Start
@@ -44,12 +44,12 @@ returns c =
     rw (sym (nowhere .before .before .holder .ensures) ∙ nowhere .enum-told .given .1) (c .refused .ensures _ _)
 
 join-refusal-requires : tie.Need-join-refusal-requires
-join-refusal-requires c κs = omega (arith, found-at (c .before) .1)
+join-refusal-requires c κs = omega (arith, found-at (c .before .before) .1)
 
 later-at-requires : tie.Need-later-at-requires
 later-at-requires c κs =
     let joining = c .before .before in
-    let found = joining .before .before in
+    let found = joining .before .before .before in
     let a = start (asking found) .args in
     let assembly = found .found .given .0 .1 .0 in (
       search needs,
@@ -63,11 +63,11 @@ unfolding later
 returns-2 c =
     let call = c .before .before .before .before in
     let joining = call .before .before .before in
-    let found = joining .before .before in
+    let found = joining .before .before .before in
     call .later-at .ensures ∙ rw (joining .join-refusal .ensures, sym (asking found .holder .ensures) ∙ found .found .given .1)
 
 pub later-spec : {M : Type 1} → statement M
 later-spec =
     tie.close
-    (tie.spec (λ c κs. search needs) (λ c. search needs) (λ c. search needs) (λ c κs. search needs) returns join-refusal-requires
+    (tie.spec (λ c κs. search needs) (λ c. search needs) (λ c. search needs) (λ c κs. search needs) returns (λ c. search needs) join-refusal-requires
     later-at-requires (λ c. search needs) (λ c. search needs) returns-2)

@@ -1,11 +1,11 @@
--- `requester::setup` meets its contract: each way out has the tests that lead to its row of `wasSetUp`, and that gives the invariant.
+-- `requester::setup` meets its contract: what `mctp::setup_refusal` gives leads to its row of `wasSetUp`, and that gives the invariant.
 -- Assumes nothing.
 use Prim.Native.Nat.{ℕ}
-use mathlib.Core.Path.{_≡_}
-use mathlib.Core.Logic.{⊎-elim}
-use native.Mathlib.Omega.{arith}
-use borrow.Author.Tests.{ltb-true, ltb-false, lt-ltb, le-ltb}
+use mathlib.Core.Path.{_≡_, sym, _∙_}
+use borrow.Author.Tests.{eq-eqb, ne-eqb}
+use borrow.Author.Needs.{needs}
 use Rattle.lent.proofs.Kept.{kept}
+use Rattle.mctp.specs.Setup.{setupRefusal}
 use Rattle.controller.specs.State.{Valid}
 use Rattle.controller.specs.Await.{wasSetUp}
 use Rattle.controller.specs.declared.Done.{Done}
@@ -13,24 +13,24 @@ use Rattle.controller.proofs.Keeps.{setup-valid}
 use Rattle.requester.proofs.setup.Statement.{statement}
 use Rattle.requester.proofs.setup.Tie as tie
 
-begun : (eid : ℕ) {d : Done} → d ≡ wasSetUp eid → (d ≡ wasSetUp eid) × Valid (d .requester)
-begun eid e = kept (λ (d : Done). Valid (d .requester)) (setup-valid eid) e
+begun : (eid unit : ℕ) {d : Done} → d ≡ wasSetUp eid unit → (d ≡ wasSetUp eid unit) × Valid (d .requester)
+begun eid unit e = kept (λ (d : Done). Valid (d .requester)) (setup-valid eid unit) e
 
 returns : tie.Need-returns
 unfolding wasSetUp
 returns c =
-    let eid = c .before .args .eid in
-    begun eid
-    (⊎-elim
-    (λ low. rw (lt-ltb eid 8 (omega arith)))
-    (λ high. rw (le-ltb eid 8 (omega arith), lt-ltb 254 eid (omega (arith, ltb-true))))
-    (c .if1 .came))
+    let r = c .before in
+    let a = r .before .args in
+    let refused = ne-eqb (setupRefusal (a .eid) (a .unit)) 0 (λ e. c .if1 .taken (r .setup-refusal .ensures ∙ e)) in
+    begun (a .eid) (a .unit) (rw (r .setup-refusal .ensures, refused))
 
 returns-2 : tie.Need-returns-2
 unfolding wasSetUp
 returns-2 c =
-    let eid = c .before .before .args .eid in
-    begun eid (rw (le-ltb eid 8 (omega arith), le-ltb 254 eid (omega (arith, ltb-false))))
+    let r = c .before in
+    let a = r .before .args in
+    let none = eq-eqb (setupRefusal (a .eid) (a .unit)) 0 (sym (r .setup-refusal .ensures) ∙ c .if1 .left) in
+    begun (a .eid) (a .unit) (rw none)
 
 pub setup-spec : {M : Type 1} → statement M
-setup-spec = tie.close (tie.spec returns returns-2)
+setup-spec = tie.close (tie.spec (λ c κs. search needs) returns returns-2)

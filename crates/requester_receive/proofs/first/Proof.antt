@@ -5,7 +5,6 @@ use mathlib.Core.Path.{_≡_, sym, ap, _∙_}
 use borrow.Author.Needs.{needs}
 use Rattle.opening.specs.Opening.{opened}
 use Rattle.opening.specs.declared.First.{First}
-use Rattle.machine.specs.Wire.{unit}
 use Rattle.controller.specs.Receive.{first}
 use Rattle.controller.specs.State.{awaits}
 use Rattle.requester_receive.proofs.first.Statement.{statement}
@@ -16,7 +15,7 @@ module _ (o : tie.After-opened) where
   abbrev start : tie.Start
   start = o .before .before .before .before
 
-  arm : {x : First} → o .opened .result ≡ x → opened unit true (start .args .header) (start .args .message .now) ≡ x
+  arm : {x : First} → o .opened .result ≡ x → opened (start .args .requester .unit) true (start .args .header) (start .args .message .now) ≡ x
   arm e = sym (o .opened .ensures) ∙ e
 
   test : {b : Bool} → not (o .before .awaits .result) ≡ b → let a = start .args in

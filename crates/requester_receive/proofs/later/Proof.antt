@@ -14,14 +14,15 @@ use borrow.Author.Tests.{eq-eqb, ne-eqb}
 use Rattle.mctp.specs.Gather.{joinRefusal, no-assembly}
 use Rattle.mctp.specs.declared.Header.{Header}
 use Rattle.machine.specs.Receive.{isFrom}
-use Rattle.machine.specs.Wire.{unit, store-size}
+use Rattle.machine.specs.Wire.{store-size}
 use Rattle.machine.specs.declared.Assembly.{Assembly}
 use Rattle.mctp.proofs.Laws.{joins}
 use Rattle.controller.specs.Receive.{refused, laterAt, laterBy, later}
-use Rattle.controller.specs.State.{Side, side, AwaitingFacts}
+use Rattle.controller.specs.State.{Side, side}
 use Rattle.controller.specs.declared.Awaiting.{Awaiting}
 use Rattle.controller.specs.declared.Awaiting.the-variants.{Nothing, Awaited, Gathering}
 use Rattle.controller.proofs.Awaiting.{the-type}
+use Rattle.controller.proofs.Keeps.{gathered-most}
 use Rattle.requester_receive.proofs.later.Statement.{statement}
 use Rattle.requester_receive.proofs.later.Tie as tie
 
@@ -38,15 +39,15 @@ module _ (s : Side) (h : Header) (payload : List ℕ) (a : Assembly) (g : s .req
   unfolding later
   by-other f = rw (g, f)
 
-  by-refusal : {n : ℕ} → not (isFrom (h .source) (h .tag) a) ≡ false → n ≡ joinRefusal unit store-size (a .sequence) (a .length) h (length payload)
+  by-refusal : {n : ℕ} → not (isFrom (h .source) (h .tag) a) ≡ false → n ≡ joinRefusal (s .requester .unit) store-size (a .sequence) (a .length) h (length payload)
       → later s h payload ≡ laterAt s a h payload n
   unfolding later
   by-refusal f e = rw (g, f, e)
 
 -- what joins has room
-joins-room : (a : Assembly) (h : Header) (n : ℕ) {x size : ℕ} → x ≡ joinRefusal unit store-size (a .sequence) (a .length) h n → x ≡ 0
+joins-room : (unit : ℕ) (a : Assembly) (h : Header) (n : ℕ) {x size : ℕ} → x ≡ joinRefusal unit store-size (a .sequence) (a .length) h n → x ≡ 0
     → size ≡ store-size → a .length + n ≤ size
-joins-room a h n e none sized = omega (arith, joins unit store-size (a .sequence) (a .length) n h (sym e ∙ none) .fits)
+joins-room unit a h n e none sized = omega (arith, joins unit store-size (a .sequence) (a .length) n h (sym e ∙ none) .fits)
 
 -- the requester and its store, as it is lent
 abbrev lent : tie.Start → Side
@@ -64,7 +65,7 @@ module _ (g : tie.After-awaiting) where
   gathers = g .awaiting .given .1
 
   room : assembly .length ≤ store-size
-  room = let facts : AwaitingFacts (Gathering assembly) = rw gathers at (start .pre .0 .awaiting-facts) in facts .2
+  room = gathered-most (start .args .requester .unit) (start .args .requester .awaiting) gathers (start .pre .0 .awaiting-facts)
 
 -- the code's test of source and tag is the definition's
 from : (w : tie.After-awaits) {b : Bool} → not (w .awaits .result) ≡ b → let g = w .before .before in let h = start g .args .header in
@@ -111,7 +112,7 @@ gathered-requires c κs =
     let j = c .before .before in
     let g = gathering j in
     let s = start g in
-    joins-room (assembly g) (s .args .header) (length (s .args .payload .now)) (j .join-refusal .ensures) (c .before .if2 .left) (s .pre .1)
+    joins-room (s .args .requester .unit) (assembly g) (s .args .header) (length (s .args .payload .now)) (j .join-refusal .ensures) (c .before .if2 .left) (s .pre .1)
 
 returns-4 : tie.Need-returns-4
 unfolding laterAt

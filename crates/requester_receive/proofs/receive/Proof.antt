@@ -1,7 +1,7 @@
 -- `requester_receive::receive` meets its contract: each way through it is a row of `received`, and the requester keeps the invariant, as
 -- `received` does.
 -- Assumes nothing.
-use Prim.Native.Nat.{ℕ, _≤_}
+use Prim.Native.Nat.{ℕ, _+_, _≤_}
 use mathlib.Core.Bool.{true, false}
 use mathlib.Core.List.{List}
 use mathlib.Core.Path.{_≡_, sym, _∙_, ap}
@@ -15,12 +15,12 @@ use Rattle.mctp.specs.Header.{readHeader, payloadOf, readSays}
 use Rattle.mctp.specs.declared.Header.{Header}
 use Rattle.mctp.specs.declared.Read.{Read}
 use Rattle.mctp.specs.declared.Read.the-variants.{Packet}
-use Rattle.machine.specs.Wire.{unit, store-size, outward}
+use Rattle.machine.specs.Wire.{store-size, outward}
 use Rattle.controller.specs.Grounds.{receiveNumbers}
 use Rattle.controller.specs.Receive.{receiveSays, restarted, first, later, received}
 use Rattle.controller.specs.State.{Side, side, Outcome, Valid}
 use Rattle.controller.proofs.Grounds.{received-so}
-use Rattle.controller.proofs.Keeps.{received-valid}
+use Rattle.controller.proofs.Keeps.{restarted-unit, received-valid}
 use Rattle.mctp.proofs.Laws.{packet-sized}
 use Rattle.requester_receive.proofs.receive.Statement.{statement}
 use Rattle.requester_receive.proofs.receive.Tie as tie
@@ -53,18 +53,18 @@ module _ (r : tie.After-read) where
   abbrev given : tie.Start
   given = start (r .before .before .before)
 
-  is-packet : readHeader (given .args .requester .eid) unit outward (given .args .packet .now) ≡ Packet (r .read .given .0 .0)
+  is-packet : readHeader (given .args .requester .eid) (given .args .requester .unit) outward (given .args .packet .now) ≡ Packet (r .read .given .0 .0)
   is-packet = sym (r .before .before .read-header .ensures .0) ∙ r .read .given .1
 
-  sized : (5 ≤ length (given .args .packet .now)) × (length (given .args .packet .now) ≤ 68)
-  sized = packet-sized (given .args .requester .eid) unit outward (given .args .packet .now) is-packet
+  sized : (5 ≤ length (given .args .packet .now)) × (length (given .args .packet .now) ≤ given .args .requester .unit + 4)
+  sized = packet-sized (given .args .requester .eid) (given .args .requester .unit) outward (given .args .packet .now) is-packet
 
   store-right : length (given .args .store .now) ≡ store-size
   store-right = r .before .before .before .if1 .left
 
 -- the rows of a packet that is read: its first, and a later one
 module _ (s : Side) (packet : List ℕ) (h : Header) (l : length (s .store) ≡ store-size)
-    (r : readHeader (s .requester .eid) unit outward packet ≡ Packet h) where
+    (r : readHeader (s .requester .eid) (s .requester .unit) outward packet ≡ Packet h) where
   by-first : {x : Side} → h .som ≡ true → x ≡ restarted (h .source) (h .tag) s → first x h (payloadOf packet) ≡ received s packet
   unfolding received
   by-first som ended = rw (eq-eqb _ _ l, r, som, ended)
@@ -88,10 +88,21 @@ returns-2 c =
     (c .refused2 .ensures _
     ∙ rw (c .before .refusal-of .ensures ∙ ap (λ (x : Read). readSays x .0) is-refused, eq-eqb _ _ (d .if1 .left), sym (header .read-header .ensures .0) ∙ is-refused))
 
+-- a whole message header fits a payload: ending an assembly keeps the unit
+wide : {x : Side} (s : Side) (source tag : ℕ) → Valid (s .requester) → x ≡ restarted source tag s → 8 ≤ x .requester .unit
+wide s source tag v e = rw e (restarted-unit source tag s (omega (arith, v .unit-least)))
+
 first-requires : tie.Need-first-requires
 first-requires c κs =
     let r = first-read (c .before) in
-    (store-right r, simp (length-take, length-drop) (omega (arith, sized r)), simp (length-take, length-drop) (omega (arith, sized r)))
+    let v = given r .pre in
+    let z = sized r in
+    let h = r .read .given .0 .0 in (
+      store-right r,
+      simp (length-take, length-drop) (omega (arith, z)),
+      simp (length-take, length-drop) (omega (arith, z, v .unit-most)),
+      wide (lent (given r)) (h .source) (h .tag) v (c .before .restarted .ensures (given r .args .store .now)),
+    )
 
 returns-3 : tie.Need-returns-3
 returns-3 c =

@@ -9,12 +9,12 @@ use borrow.Author.Needs.{needs}
 use Rattle.lent.proofs.Kept.{kept}
 use Rattle.mctp.specs.Cut.{packet}
 use Rattle.mctp.specs.declared.Route.{Route}
-use Rattle.mctp.proofs.Ends.{packet-length}
-use Rattle.machine.specs.Wire.{unit}
 use Rattle.controller.specs.Grounds.{primitiveNumbers}
 use Rattle.controller.specs.Send.{Sent, sendSays, routeFrom, written, controlRequest, primitiveTo}
-use Rattle.controller.proofs.Calls.{primitive-so}
+use Rattle.controller.proofs.Calls.{packet-bytes, primitive-so}
+use Rattle.controller.specs.State.{Valid}
 use Rattle.controller.specs.declared.Primitive.{Primitive}
+use Rattle.controller.specs.declared.Requester.{Requester}
 use Rattle.requester_send.proofs.Writing.{too-short, fits}
 use Rattle.requester_send.proofs.primitive.Statement.{statement}
 use Rattle.requester_send.proofs.primitive.Tie as tie
@@ -24,9 +24,8 @@ abbrev start : tie.Else1 → tie.Start
 start c = c .before .before
 
 -- the packet's bytes
-sixteen : (route : Route) (p : Primitive) → length (packet unit route (controlRequest p) 0) ≡ 16
-unfolding controlRequest
-sixteen route p = packet-length unit route (controlRequest p) 0
+sixteen : (r : Requester) → Valid r → (route : Route) (p : Primitive) → length (packet (r .unit) route (controlRequest p) 0) ≡ 16
+sixteen r v route p = packet-bytes (r .unit) route p (v .unit-least)
 
 -- the numbers follow from the row
 done : (s : tie.Start) {x : Sent} → let a = s .args in
@@ -36,7 +35,7 @@ done : (s : tie.Start) {x : Sent} → let a = s .args in
 done s e =
     let a = s .args in
     kept (λ (x : Sent). sendSays (x .answer) ≡ primitiveNumbers (a .tag) (a .asked) (a .buffer .now))
-    (primitive-so (a .requester) (a .destination) (a .tag) (a .asked) (a .buffer .now) .wrote .number-is) e
+    (primitive-so (a .requester) (a .destination) (a .tag) (a .asked) (a .buffer .now) (s .pre) .wrote .number-is) e
 
 returns : tie.Need-returns
 unfolding primitiveTo
@@ -51,19 +50,22 @@ returns-2 c =
 -- no test of tag and slot applies
 passed : (c : tie.Else2) → let a = start (c .before) .args in
     primitiveTo (a .requester) (a .destination) (a .tag) (a .asked) (a .buffer .now)
-    ≡ written (packet unit (routeFrom (a .requester) (a .destination) (a .tag)) (controlRequest (a .asked)) 0) (a .buffer .now)
+    ≡ written (packet (a .requester .unit) (routeFrom (a .requester) (a .destination) (a .tag)) (controlRequest (a .asked)) 0) (a .buffer .now)
 unfolding primitiveTo
 passed c = let a = start (c .before) .args in rw (le-ltb 7 (a .tag) (omega arith), lt-ltb (a .asked .slot) 2 (omega arith))
 
 returns-3 : tie.Need-returns-3
-returns-3 c = done (start (c .before .before)) (rw (passed (c .before)) (too-short _ _ (sixteen _ _) (omega arith)))
+returns-3 c =
+    let s = start (c .before .before) in
+    done s (rw (passed (c .before)) (too-short _ _ (sixteen (s .args .requester) (s .pre) _ _) (omega arith)))
 
 returns-4 : tie.Need-returns-4
 returns-4 c =
     let w = c .before .before in
     let routed = w .before .before .before in
     let made = routed .before in
-    done (start (made .before .before .before))
+    let s = start (made .before .before .before) in
+    done s
     (rw (
       passed (made .before .before),
       w .write-packet .ensures .1,
@@ -71,7 +73,7 @@ returns-4 c =
       routed .route-from .ensures,
       made .control-request .ensures,
     )
-    (fits _ _ (sixteen _ _) (omega arith)))
+    (fits _ _ (sixteen (s .args .requester) (s .pre) _ _) (omega arith)))
 
 pub primitive-spec : {M : Type 1} → statement M
 primitive-spec =

@@ -7,6 +7,7 @@ use lib.ListN.{length-take}
 use borrow.Author.Needs.{needs}
 use Rattle.machine.specs.Finish.{partOf}
 use Rattle.machine.specs.declared.Phase.{Phase}
+use Rattle.machine.proofs.Invariant.{between-bounds}
 use Rattle.slots.proofs.Other.{not-process}
 use Rattle.take.proofs.part_of.Statement.{statement}
 use Rattle.take.proofs.part_of.Tie as tie
@@ -22,7 +23,7 @@ slice-aggregate-result-3 : tie.Need-slice-aggregate-result-3
 slice-aggregate-result-3 c =
     let at-command = c .before .before .before .before in
     let fits = rw (at-command .phase .given .1) at (at-command .before .before .pre .1) in
-    simp length-take (omega (arith, fits .1))
+    simp length-take (omega (arith, between-bounds 8 4224 (at-command .phase .given .0 .0 .length) fits .1))
 
 returns-3 : tie.Need-returns-3
 returns-3 c =

@@ -7,10 +7,11 @@ use mathlib.Core.Logic.{⊎-elim}
 use native.Mathlib.Omega.{arith}
 use borrow.Author.Tests.{leb-true, leb-false, lt-ltb, le-ltb}
 use borrow.Author.Needs.{needs}
-use Rattle.machine.specs.State.{World, world}
+use Rattle.machine.specs.State.{World, world, slotAt}
 use Rattle.machine.specs.Wire.{wrongStores}
 use Rattle.machine.specs.Finish.{part}
 use Rattle.machine.proofs.Slots.{facts-at}
+use Rattle.machine.proofs.Invariant.{of-facts}
 use Rattle.machine.proofs.Keeps.{sound-of, store-at}
 use Rattle.take.proofs.request.Statement.{statement}
 use Rattle.take.proofs.request.Tie as tie
@@ -38,8 +39,9 @@ part-of-requires : tie.Need-part-of-requires
 part-of-requires c κs =
     let d = c .before .before .before in
     let s = start d in
+    let e = s .args .t1 in
     let size = store-at (s .args .slot) (sound-of (lent s) (passed d) (s .pre)) in
-    (rw (c .before .store-of .ensures) size, facts-at (s .args .slot) (omega (arith, leb-false)) (s .pre))
+    (rw (c .before .store-of .ensures) size, of-facts (e .unit) (slotAt e (s .args .slot) .paused) (slotAt e (s .args .slot) .phase) (facts-at (s .args .slot) (omega (arith, leb-false)) (s .pre)) .fits)
 
 returns-2 : tie.Need-returns-2
 unfolding part

@@ -28,5 +28,5 @@ word-requires c κs = enough (c .before .before .before .before) 23 (c .if4 .tak
 pub numbered-spec : {M : Type 1} → statement M
 numbered-spec =
     tie.close
-    (tie.spec setup-read (λ c κs. search needs) (λ c. search needs) (λ c κs. search needs) (λ c. search needs) (λ c. search needs) (λ c. search needs) completed-requires (λ c. search needs)
+    (tie.spec setup-read (λ c κs. search needs) (λ c κs. search needs) (λ c. search needs) (λ c κs. search needs) (λ c. search needs) (λ c. search needs) (λ c. search needs) completed-requires (λ c. search needs)
     (λ c. search needs) (λ c. search needs) word-requires (λ c κs. search needs) (λ c. search needs) (λ c κs. search needs) (λ c. search needs))

@@ -7,10 +7,14 @@ use borrow.Author.Needs.{needs}
 use Rattle.mi_calls.proofs.requester_record.cut_words.Statement.{statement}
 use Rattle.mi_calls.proofs.requester_record.cut_words.Tie as tie
 
+-- the start, from behind the call
+abbrev start : tie.After-cut → tie.Start
+start c = c .before .before .before .before .before .before .before .before .before
+
 written-lies : tie.Need-send-words-requires
 written-lies c κs =
     let after = c .before .before .before in
-    λ n e. let most = cut-fits _ _ _ _ _ _ (after .cut .ensures .0) n e in omega (arith, most)
+    λ n e. let most = cut-fits _ _ _ _ _ _ (start after .pre .0) (after .cut .ensures .0) n e in omega (arith, most)
 
 pub cut-words-spec : {M : Type 1} → statement M
 cut-words-spec =

@@ -7,10 +7,14 @@ use borrow.Author.Needs.{needs}
 use Rattle.mi_calls.proofs.requester_record.primitive_words.Statement.{statement}
 use Rattle.mi_calls.proofs.requester_record.primitive_words.Tie as tie
 
+-- the start, from behind the call
+abbrev start : tie.After-primitive → tie.Start
+start c = c .before .before .before .before .before .before .before .before .before
+
 written-lies : tie.Need-send-words-requires
 written-lies c κs =
     let after = c .before .before .before in
-    λ n e. let most = primitive-fits _ _ _ _ _ _ (after .primitive .ensures .0) n e in omega (arith, most)
+    λ n e. let most = primitive-fits _ _ _ _ _ _ (start after .pre .0) (after .primitive .ensures .0) n e in omega (arith, most)
 
 pub primitive-words-spec : {M : Type 1} → statement M
 primitive-words-spec =

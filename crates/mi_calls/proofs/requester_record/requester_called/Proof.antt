@@ -26,14 +26,14 @@ tag-read : tie.Need-shared-slice-read-await-response-2
 tag-read c = let await = c .before .before in omega (arith, enough (await .before .before) 34 (await .if2 .taken))
 
 cut-read : tie.Need-cut-words-requires
-cut-read c κs = enough (c .before .before .before) 35 (c .if3 .taken)
+cut-read c κs = let k = c .before .before .before in (start k .pre .0, enough k 35 (c .if3 .taken))
 
 primitive-read : tie.Need-primitive-words-requires
-primitive-read c κs = enough (c .before .before .before .before) 36 (c .if4 .taken)
+primitive-read c κs = let k = c .before .before .before .before in (start k .pre .0, enough k 36 (c .if4 .taken))
 
 pub requester-called-spec : {M : Type 1} → statement M
 requester-called-spec =
     tie.close
-    (tie.spec setup-read (λ c κs. search needs) (λ c κs. search needs) (λ c. search needs) source-read tag-read (λ c κs. search needs)
+    (tie.spec setup-read (λ c κs. search needs) (λ c κs. search needs) (λ c κs. search needs) (λ c. search needs) source-read tag-read (λ c κs. search needs)
     (λ c κs. search needs) (λ c. search needs) cut-read (λ c. search needs) primitive-read (λ c. search needs) (λ c κs. search needs)
     (λ c. search needs) (λ c. search needs) (λ c κs. search needs) (λ c. search needs) (λ c. search needs))
