@@ -33,6 +33,10 @@ def read(slot=0):
 def complete(ticket, body, slot=0):
     return record(calls.COMPLETE, calls.TWO_NUMBERS.pack(slot, ticket) + body)
 
+def declare(ticket, can, slot=0):
+    """`can` is 1 if the taken command can still be stopped, 0 if it no longer can; nothing else is right."""
+    return record(calls.DECLARE, calls.DECLARATION.pack(slot, ticket, can))
+
 def poll(length=longest_packet(BASE_UNIT)):
     return record(calls.POLL, calls.LENGTH.pack(length))
 

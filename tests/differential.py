@@ -4,7 +4,7 @@
     python3 differential.py [--quick] [--logs N] [--scripts N] [--records N] MI_LOG MI_CALLS
 
 MI_LOG reads a log on standard input, MI_CALLS a script. Each is run on every stored input
-(tests/logs, tests/scripts) and on random ones (200 logs and 130 scripts of 2,000 records each if no number
+(tests/logs, tests/scripts) and on random ones (200 logs and 160 scripts of 2,000 records each if no number
 is given; the seeds are 0, 1, 2 and so on). What the inputs reach is reported, and something on a list that
 no random input reaches is a failure too: equal outputs say little about a state that no input has seen. The
 exit status is 0 only if every output is equal and everything was reached, 1 if not, and 2 if nothing could be
@@ -39,7 +39,7 @@ NOT_JUDGED = "goals are not judged in a quick run"
 Subject = collections.namedtuple("Subject", "program generate replay goals many few")
 
 SUBJECTS = {LOG.kind: Subject(LOG, generate, reached.replay, reached.GOALS, 200, 20),
-            CALLS.kind: Subject(CALLS, generate_calls, reached_calls.replay, reached_calls.GOALS, 130, 10)}
+            CALLS.kind: Subject(CALLS, generate_calls, reached_calls.replay, reached_calls.GOALS, 160, 10)}
 
 # What comparing an input gave: the goals that it reached, the faults found, the lines of its output.
 Result = collections.namedtuple("Result", "reached faults lines")

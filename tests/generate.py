@@ -15,6 +15,7 @@ import random
 import records
 from generate_replay import ReplayGenerator
 from reached import LogRun
+from runs import TAKEN
 from second.wire import ABORT, ADMIN, GET_STATE, MI, PAUSE, PCIE, REPLAY, RESUME
 from units import last_begins, too_long
 
@@ -238,7 +239,7 @@ class Generator(ReplayGenerator):
         self.write(records.packet(message, source=source, tag=tag))
 
     def complete(self):
-        slot = self.slot("Process taken")
+        slot = self.slot(*TAKEN)
         size = self.random.choice((long_bodies if self.chance(8) else bodies)(self.unit))
         self.write(records.complete(self.random.randbytes(size), slot))
 

@@ -7,16 +7,17 @@ The same seed and N give the same script; about half of the scripts end with a f
 is steered as a log is, by `generate`: what that chooses is put into the records of the calls program.
 Between, calls are made with each argument right or wrong on its own, so that several faults meet in one
 call, and the states are looked at often. The requester's part, and what both ends give each other, is chosen
-by `generate_requester`, and what shows the bounds of other units by `generate_units`.
+by `generate_requester`, what shows the bounds of other units by `generate_units`, and what is declared of
+taken commands by `generate_declare`.
 """
 import call_records
 import records
 from call_records import LOOK, REQUESTER_LOOK, REQUESTER_TAGS, RESET
 from generate import bodies, command_line, generated
+from generate_declare import DeclareGenerator
 from generate_ends import ENDPOINT, OUR_EID
-from generate_units import UnitsGenerator
 from reached_calls import BUFFERS, LENT, CallsRun
-from runs import FAR_SLOTS, HIGH_PARTS
+from runs import FAR_SLOTS, HIGH_PARTS, TAKEN
 from second import calls, log
 from second.calls import MEMORY
 from second.endpoint import STORE
@@ -26,19 +27,26 @@ from units import length_of, longest_packet
 FAR = (1 << 32) - 1
 UNKNOWN = [tag for tag in range(256) if tag not in calls.LENGTHS]
 
-class CallsGenerator(UnitsGenerator):
+class CallsGenerator(DeclareGenerator):
     """Chooses the records of a script."""
     new_run = CallsRun
     one_in_faulty = 2
 
     def write(self, *found):
-        """Adds records, and now and then a look; what was taken is mostly read."""
+        """Adds records, and now and then a look."""
         for record in found:
             super().write(record)
-            if self.log[-1][0] == calls.TAKE and self.run.lines[-1].startswith("0 ") and not self.chance(3):
-                super().write(records.record(calls.READ, self.log[-1][3:]))
+            if self.log[-1][0] == calls.TAKE and self.run.lines[-1].startswith("0 "):
+                self.taken(*calls.NUMBER.unpack(self.log[-1][3:]))
             if self.chance(10):
                 super().write(REQUESTER_LOOK if self.log[-1][0] in REQUESTER_TAGS else LOOK)
+
+    def taken(self, slot):
+        """What was taken is mostly read, and now and then declared."""
+        if not self.chance(3):
+            super().write(call_records.read(slot))
+        if self.chance(8):
+            super().write(self.right(slot))
 
     # A log's record as the calls program's
     def put(self, record):
@@ -91,8 +99,11 @@ class CallsGenerator(UnitsGenerator):
     # Calls with each argument right or wrong on its own
     def any_slot(self, *wanted):
         slot = self.slot(*wanted) & 1
-        high = slot + self.random.choice(HIGH_PARTS)
-        return self.one_of(slot, high, high, self.random.choice(FAR_SLOTS))
+        return self.one_of(slot, self.high(slot), self.high(slot), self.random.choice(FAR_SLOTS))
+
+    def high(self, slot):
+        """A number above 1 whose low bits are the slot's."""
+        return slot + self.random.choice(HIGH_PARTS)
 
     def any_take(self):
         wanted = "Process answered" if self.chance(4) else "Process untaken"
@@ -100,26 +111,26 @@ class CallsGenerator(UnitsGenerator):
         self.write(call_records.take(self.any_slot(wanted)))
 
     def any_read(self):
-        self.make("Process taken")
-        self.write(call_records.read(self.any_slot("Process taken")))
+        self.make(*TAKEN)
+        self.write(call_records.read(self.any_slot(*TAKEN)))
 
     def any_timeout(self):
         if not self.endpoint.gathering:
             self.begin()
         self.write(call_records.timeout(self.any_slot("Receive")))
 
-    def make(self, state):
-        """Mostly brings a slot to the state, unless one is there."""
-        if state not in (self.endpoint.state(0), self.endpoint.state(1)) and self.endpoint.stores_fit():
-            if not self.chance(3):
-                self.bring(self.slot("Idle") & 1, state)
+    def make(self, *states):
+        """Mostly brings a slot to the first of the states, unless one is in any of them."""
+        found = {self.endpoint.state(0), self.endpoint.state(1)}
+        if not found.intersection(states) and self.endpoint.stores_fit() and not self.chance(3):
+            self.bring(self.slot("Idle") & 1, states[0])
 
     def any_poll(self):
         self.write(call_records.poll(self.one_of(*self.buffers)))
 
     def any_complete(self):
-        self.make("Process taken")
-        slot = self.any_slot("Process taken", "Process untaken", "Process answered")
+        self.make(*TAKEN)
+        slot = self.any_slot(*TAKEN, "Process untaken", "Process answered")
         ticket = self.one_of(self.endpoint.counts[slot & 1], self.ticket(slot))
         size = self.one_of(self.random.choice(bodies(self.unit)), 0, 3, 4217,
                            self.random.choice((4216, 4300, 8184)))
@@ -147,8 +158,9 @@ class CallsGenerator(UnitsGenerator):
 
     def any_call(self):
         self.random.choices((self.any_packet, self.any_take, self.any_read, self.any_complete, self.any_poll,
-                             self.any_timeout, lambda: super(CallsGenerator, self).write(LOOK)),
-                            (19, 4, 4, 10, 4, 3, 2))[0]()
+                             self.any_timeout, self.any_declare,
+                             lambda: super(CallsGenerator, self).write(LOOK)),
+                            (22, 4, 4, 10, 4, 4, 3, 2))[0]()
 
     def gives_up(self, sender):
         """A message whose assembly has ended is not sent to its end: a script has more to try."""
@@ -186,6 +198,8 @@ class CallsGenerator(UnitsGenerator):
         for record in (None, command, call_records.take(slot)):
             if record:
                 self.write(record)
+            if self.chance(2):
+                self.write(call_records.declare(ticket, self.mark(), slot))
             body = self.random.randbytes(self.random.choice(bodies(self.unit)))
             self.write(call_records.complete(ticket, body, slot))
 
@@ -195,7 +209,7 @@ class CallsGenerator(UnitsGenerator):
             super().leave(slot)
         elif self.chance(2):
             short = call_records.poll(longest_packet(self.unit) - 1)
-            self.write(self.random.choice((call_records.read(slot), short, LOOK)))
+            self.write(self.random.choice((call_records.read(slot), short, LOOK, self.right(slot))))
         else:
             self.lend()
             self.write(self.random.choice((
@@ -225,6 +239,7 @@ class CallsGenerator(UnitsGenerator):
             *(records.record(setup, bytes((8, self.random.randrange(256)))) for setup in calls.SETUPS),
             self.random.choice((call_records.stores(above, STORE), call_records.stores(STORE, above),
                                 call_records.requester_store(above))),
+            call_records.declare(0, self.random.randrange(2, 256)),
             records.record(tag, bytes(least))[:self.random.randrange(1, 3)],
             records.record(calls.COMPLETE, bytes(4217))[:self.random.randrange(3, 4220)]))
 
@@ -233,6 +248,8 @@ class CallsGenerator(UnitsGenerator):
             self.at_a_multiple()
         elif not self.endpoint.stores_fit():
             self.lent_otherwise()
+        elif self.chance(self.one_in_declares):
+            self.declares()
         elif self.chance(50):
             self.units()
         elif self.unequal and self.chance(20):
@@ -240,6 +257,8 @@ class CallsGenerator(UnitsGenerator):
         elif self.chance(4):
             self.requester_step()
         elif self.chance(40):
+            if self.chance(2):
+                self.begin()            # what then comes later may be of an assembly
             self.lend()
         elif self.chance(100):
             self.setup()
@@ -247,7 +266,7 @@ class CallsGenerator(UnitsGenerator):
             self.too_long()
         elif self.chance(80):
             self.kept_tickets()
-        elif self.chance(90):
+        elif self.chance(70):
             self.replays()
         elif self.chance(3):
             self.any_call()

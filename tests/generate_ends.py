@@ -91,7 +91,7 @@ class EndsGenerator(Generator):
         self.faulty_header(end, payload, 0, self.chance(2), sequence, source, tag)
 
     def faulty_header(self, end, payload, som, eom, sequence, source, tag):
-        version = 1 if not self.chance(5) else self.random.choice((0, 2, 0xF1, 0xF1, 0xF2))
+        version = 1 if not self.chance(4) else self.random.choice((0, 2, 0xF1, 0xF1, 0xF1, 0xF2))
         destination = self.eid_of(end) if not self.chance(6) else self.random.choice((0, 8, 9, 255))
         self.write(end.put(records.packet(payload, som, eom, sequence, source, tag, version, destination,
                                           end.to ^ self.chance(6))))

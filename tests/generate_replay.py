@@ -2,7 +2,7 @@
 lost by, Replays, and what may happen while it is sent again."""
 import records
 from reached_replay import WRONG_CPSP
-from runs import STATES
+from runs import STATES, TAKEN
 from second.wire import ABORT, GET_STATE, PAUSE, REPLAY, RESUME
 from units import too_long
 
@@ -15,6 +15,7 @@ def bodies(unit):
 
 class ReplayGenerator:
     """A part of `generate.Generator`."""
+    states = STATES             # that a slot can be brought to
 
     def replays(self):
         """Replays of what a slot holds, with the other slot in any state."""
@@ -22,7 +23,7 @@ class ReplayGenerator:
         for _ in range(self.random.randrange(1, 4)):
             self.hold(slot)
             if self.chance(2):
-                self.bring(1 - slot, self.random.choice(STATES[1:]))
+                self.bring(1 - slot, self.random.choice(self.states[1:]))
             for _ in range(self.random.randrange(3)):
                 self.leave(slot)
             if self.chance(3):
@@ -127,7 +128,7 @@ class ReplayGenerator:
             self.write(records.timeout(slot))
         elif state == "Process untaken":
             self.write(records.take(slot))
-        elif state == "Process taken":
+        elif state in TAKEN:
             self.write(records.complete(self.body(), slot))
         else:
             self.settle()
@@ -149,7 +150,7 @@ class ReplayGenerator:
         elif way == 2:
             self.write(records.packet(records.damaged(records.command(slot=slot)), source=77, tag=1))
         elif way < 5:
-            self.bring(slot, self.random.choice(STATES[1:]))
+            self.bring(slot, self.random.choice(self.states[1:]))
             if self.chance(2):
                 self.random.choice((lambda: self.control(ABORT, slot), self.forget))()
         else:

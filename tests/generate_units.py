@@ -6,15 +6,14 @@ from call_records import await_from, cut_message, primitive, requester_setup
 from generate_ends import ENDPOINT, OUR_EID, REQUESTER
 from generate_requester import USUAL_EID, RequesterGenerator
 from reached_units import BUILT
-from runs import STATES
 from second.endpoint import STORE
 from second.wire import GET_STATE
 from units import AROUND, BASE_UNIT, UNITS, fitting, longest_packet
 
 # Every multiple of each unit that a message can have, and how many of them are at the front of a script: so
-# that the first 73 scripts have them all.
+# that the first 49 scripts have them all.
 MULTIPLES = [(unit, count) for unit in UNITS for count in range(1, fitting(unit) + 1)]
-AT_FRONT = 4
+AT_FRONT = 6
 
 class UnitsGenerator(RequesterGenerator):
     """A part of `generate_calls.CallsGenerator`."""
@@ -42,7 +41,7 @@ class UnitsGenerator(RequesterGenerator):
         """Both ends with one unit, now and then with two, and what follows it; before, setups of any unit."""
         for _ in range(self.random.randrange(4)):
             if self.chance(2) and self.endpoint.stores_fit():
-                self.bring(self.random.randrange(2), self.random.choice(STATES[1:]))
+                self.bring(self.random.randrange(2), self.random.choice(self.states[1:]))
             self.random.choice((self.setup, self.requester_setup))()
         unit = self.right_unit()
         self.set_up_both(unit, self.right_unit() if self.chance(5) else unit)

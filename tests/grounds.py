@@ -82,6 +82,7 @@ BEHIND = {
     "control": {"MEB": ("CIAP", "opcode", "CPSP"), "CIAP": ("opcode", "CPSP"), "opcode": (), "CPSP": ()},
     "take": {"30": (), "31": ("33",), "33": ()},
     # A command that was answered at once was never taken.
+    "declare": {"30": (), "31": ("32", "34"), "32": ("34",), "34": ()},
     "complete": {STORES: ("30", "31", "32", "34", "35"), "30": ("35",), "31": ("32", "34", "35"),
                  "32": ("34", "35"), "34": ("35",), "35": ()},
     "poll": {STORES: ("36",), "36": ()},
@@ -177,13 +178,17 @@ def take_grounds(endpoint, was_taken, slot):
     job = endpoint.jobs[slot]
     return holding(("31", is_gone(job)), ("33", was_taken[slot] and not isinstance(job, (Idle, Receive))))
 
-def complete_grounds(endpoint, was_taken, slot, ticket, body):
-    found, size = holding((STORES, not endpoint.stores_fit())), ("35", not 4 <= len(body) <= 4216)
+def declare_grounds(endpoint, was_taken, slot, ticket):
     if slot > 1:
-        return found + holding(("30", True), size)
+        return ["30"]
     job = endpoint.jobs[slot]
-    return found + holding(("31", is_gone(job)), ("32", ticket != endpoint.counts[slot]),
-                           ("34", not was_taken[slot] and not isinstance(job, (Idle, Receive))), size)
+    return holding(("31", is_gone(job)), ("32", ticket != endpoint.counts[slot]),
+                   ("34", not was_taken[slot] and not isinstance(job, (Idle, Receive))))
+
+def complete_grounds(endpoint, was_taken, slot, ticket, body):
+    return [*holding((STORES, not endpoint.stores_fit())),
+            *declare_grounds(endpoint, was_taken, slot, ticket),
+            *holding(("35", not 4 <= len(body) <= 4216))]
 
 def poll_grounds(endpoint, length):
     return holding((STORES, not endpoint.stores_fit()), ("36", length < longest_packet(endpoint.unit)))

@@ -1,9 +1,10 @@
 """What scripts for the calls program reach.
 
-GOALS is every line that a right set of scripts has to reach, those of `reached_requester`, `reached_replay`
-and `reached_units` too. Many of them are pairs: each two grounds on which a call can refuse at the same time,
-of which the earlier one has to be answered.
+GOALS is every line that a right set of scripts has to reach, those of `reached_requester`, `reached_replay`,
+`reached_units` and `reached_declare` too. Many of them are pairs: each two grounds on which a call can refuse
+at the same time, of which the earlier one has to be answered.
 """
+import reached_declare
 import reached_replay
 import reached_requester
 import reached_units
@@ -11,29 +12,31 @@ import runs
 from exchanges import written_by
 from grounds import (BEHIND, complete_grounds, control_answer, control_grounds, ground_goals, poll_grounds,
                      read_grounds, receive_grounds, setup_grounds, take_grounds, timeout_grounds)
+from reached_declare import Declares
 from reached_replay import Replays
 from reached_requester import RequesterRun
 from reached_units import Units
-from runs import EIDS, FAR_SLOTS, HIGH_PARTS, STATES, answer_of, is_paused, packet_kind
-from second.calls import (COMPLETE, LENGTH, LENGTHS, LONGEST_BODY, LOOK, MEMORY, NUMBER, POLL, READ, RECEIVE,
-                          REQUESTER_SETUP, RESET, SETUP, STORES, TAKE, TIMEOUT, TWO_LENGTHS, TWO_NUMBERS,
-                          records, setup_arguments)
+from runs import (EIDS, FAR_SLOTS, HIGH_PARTS, SCRIPT_STATES, WRONG_STORES, answer_of, is_paused, packet_kind,
+                  wrong_stores)
+from second.calls import (COMPLETE, DECLARE, LENGTH, LENGTHS, LONGEST_BODY, LOOK, MEMORY, NUMBER, POLL, READ,
+                          RECEIVE, REQUESTER_SETUP, RESET, SETUP, STORES, TAKE, TIMEOUT, TWO_LENGTHS,
+                          TWO_NUMBERS, records, setup_arguments)
 from second.endpoint import STORE
 from units import length_of
 
 ANSWERS = {"receive": (0, 1, 2, *range(10, 24), 40), "take": (0, 30, 31, 33), "poll": (0, 1, 36, 40),
            "complete": (0, 30, 31, 32, 34, 35, 40), "timeout": (0, 30, 37), "setup": (0, 38, 39),
-           "reset": (0,), "stores": (0,)}
-SLOT_CALLS = ("take", "read", "complete", "timeout")
+           "declare": (0, 30, 31, 32, 34), "reset": (0,), "stores": (0,)}
+SLOT_CALLS = ("take", "read", "complete", "timeout", "declare")
 BUFFERS = (0, "U + 3", "U + 4", "U + 5", 65535)
 LENT = ((STORE - 1, STORE), (STORE, STORE - 1), (STORE + 1, STORE), (STORE, STORE + 1), (0, 0),
         (MEMORY, MEMORY), (0, STORE))
-WHICH = {(False, True): "store 0", (True, False): "store 1", (False, False): "both stores"}
 FLAG_BITS = (*range(4, 13), 14)
 TO_SEND = ("nothing", "a control reply", "a command packet")
-HALF_A_UNIT = {SETUP: "half a unit in a setup", REQUESTER_SETUP: "half a unit in the requester's setup"}
+WRONG_BODY = {SETUP: "half a unit in a setup", REQUESTER_SETUP: "half a unit in the requester's setup",
+              DECLARE: "a declaration other than 0 and 1"}
 FAULTS = ("an unknown tag", "a wrong length", "a body over 8,192", "a store above 4,300", "a cut head",
-          "a cut body", *HALF_A_UNIT.values())
+          "a cut body", *WRONG_BODY.values())
 
 # The goals
 
@@ -54,7 +57,7 @@ def argument_goals():
         yield f"setup with EID {eid} answers {answer}"
     for first, second in LENT:
         yield f"stores of {first} and {second} lent"
-    for which in WHICH.values():
+    for which in WRONG_STORES.values():
         yield from (f"{call} with {which} of another length"
                     for call in ("receive", "complete", "poll", "read"))
     yield from (f"{call} with stores of another length"
@@ -64,19 +67,21 @@ def argument_goals():
 def state_goals(slot, state):
     yield from (f"slot {slot}: setup {answer} in {state}" for answer in ANSWERS["setup"])
     yield f"slot {slot}: reset in {state}"
-    yield f"slot {slot}: another ticket in {state}"
-    yield f"slot {slot}: the present ticket in {state}"
     if state != "Idle":                 # an Idle slot has no pause flag
         yield f"look: slot {slot} paused in {state}"
 
+def ticket_goals():
+    for state in SCRIPT_STATES:
+        yield from (f"{which} ticket in {state}" for which in ("another", "the present"))
+    yield from ("a ticket that no command had, 32", "the other slot's ticket, 32")
+    yield from (f"the present ticket plus {part}, 32" for part in HIGH_PARTS)
+    yield from (f"a ticket kept over reset, {answer}" for answer in (31, 32))
+    yield from (f"a ticket kept over setup, {answer}" for answer in (0, 31, 32))
+
 def slot_goals(slot):
-    for state in STATES:
+    for state in SCRIPT_STATES:
         yield from state_goals(slot, state)
-    yield f"slot {slot}: a ticket that no command had, 32"
-    yield f"slot {slot}: the other slot's ticket, 32"
-    yield from (f"slot {slot}: the present ticket plus {part}, 32" for part in HIGH_PARTS)
-    yield from (f"slot {slot}: a ticket kept over reset, {answer}" for answer in (31, 32))
-    yield from (f"slot {slot}: a ticket kept over setup, {answer}" for answer in (0, 31, 32))
+    yield from (f"slot {slot}: {call}{goal}" for call in ("", "declare with ") for goal in ticket_goals())
     yield from (f"slot {slot}: {what} after other lengths were lent"
                 for what in ("a part read", "a packet joined", "completed", "a packet sent"))
     yield f"look: slot {slot} busy"
@@ -84,8 +89,8 @@ def slot_goals(slot):
     yield f"look: slot {slot} in a replay"
 
 def look_goals():
-    for first in STATES:
-        yield from (f"look: slots {first} and {second}" for second in STATES)
+    for first in SCRIPT_STATES:
+        yield from (f"look: slots {first} and {second}" for second in SCRIPT_STATES)
     yield from (f"look: flag {bit}" for bit in FLAG_BITS)
     yield from ("look: turn 1", "look: last 1", "look: a reply waits", "look: stores of another length")
 
@@ -96,7 +101,7 @@ def call_goals():
     yield from (f"bad for {fault}" for fault in FAULTS)
 
 GOALS = (*call_goals(), *refusal_goals(), *argument_goals(), *slot_goals(0), *slot_goals(1), *look_goals(),
-         *reached_requester.GOALS, *reached_replay.SCRIPT_GOALS, *reached_units.GOALS)
+         *reached_requester.GOALS, *reached_replay.SCRIPT_GOALS, *reached_units.GOALS, *reached_declare.GOALS)
 
 # What a script reaches
 
@@ -107,8 +112,8 @@ class CallsRun(RequesterRun):
         super().__init__({
             SETUP: self.was_set_up, STORES: self.were_lent, RECEIVE: self.received, TAKE: self.taken,
             READ: self.was_read, COMPLETE: self.completed, POLL: self.polled, TIMEOUT: self.timed_out,
-            RESET: self.was_reset, LOOK: self.looked})
-        self.replays, self.units = Replays(self), Units(self)
+            RESET: self.was_reset, LOOK: self.looked, DECLARE: lambda *given: self.declares.declared(*given)})
+        self.replays, self.units, self.declares = Replays(self), Units(self), Declares(self)
         self.was_taken = [False, False]         # whether the slot's last command was taken
         self.given = [set(), set()]             # tickets given since the last reset or setup
         self.over_reset, self.over_setup = [set(), set()], [set(), set()]
@@ -128,6 +133,7 @@ class CallsRun(RequesterRun):
     def noted(self, tag, before, body, line):
         super().noted(tag, before, body, line)
         self.units.noted(tag, before, body, line)
+        self.declares.noted(tag, before, body, line)
 
     def fault_of(self, rest):
         """Why the first record of these bytes prints `bad`."""
@@ -141,7 +147,7 @@ class CallsRun(RequesterRun):
         least, greatest = LENGTHS[rest[0]]
         if not least <= length <= greatest:
             return "a wrong length"
-        return "a cut body" if len(rest) < 3 + length else HALF_A_UNIT.get(rest[0], "a store above 4,300")
+        return "a cut body" if len(rest) < 3 + length else WRONG_BODY.get(rest[0], "a store above 4,300")
 
     # Notes that several calls share
 
@@ -154,9 +160,7 @@ class CallsRun(RequesterRun):
 
     def stored(self, call, before, refused):
         """Which of the lent stores was the reason."""
-        if refused:
-            which = tuple(len(store) == STORE for store in before.stores)
-            self.note(f"{call} with {WHICH.get(which)} of another length", which in WHICH)
+        self.note(f"{call} with {wrong_stores(before)} of another length", refused)
 
     def without_stores(self, call, answer, before):
         self.note(f"{call} {answer} with stores of another length", not before.stores_fit())
@@ -236,16 +240,17 @@ class CallsRun(RequesterRun):
             self.note(f"slot {slot}: completed after other lengths were lent",
                       line == "0" and self.lent_otherwise[slot])
 
-    def ticket_used(self, before, slot, ticket, line):
-        present, others = before.counts[slot], before.counts[1 - slot]
+    def ticket_used(self, before, slot, ticket, line, call=""):
+        """The ticket with which something was completed or, as `call` says, declared."""
+        present, others, who = before.counts[slot], before.counts[1 - slot], f"slot {slot}: {call}"
         which = "the present" if ticket == present else "another"
-        self.note(f"slot {slot}: {which} ticket in {before.state(slot)}")
-        self.note(f"slot {slot}: a ticket that no command had, {line}", ticket > max(present, others))
-        self.note(f"slot {slot}: the other slot's ticket, {line}",
+        self.note(f"{who}{which} ticket in {before.state(slot)}")
+        self.note(f"{who}a ticket that no command had, {line}", ticket > max(present, others))
+        self.note(f"{who}the other slot's ticket, {line}",
                   ticket == others and ticket in self.given[1 - slot])
-        self.note(f"slot {slot}: the present ticket plus {ticket - present}, {line}")
-        self.note(f"slot {slot}: a ticket kept over reset, {line}", ticket in self.over_reset[slot])
-        self.note(f"slot {slot}: a ticket kept over setup, {line}",
+        self.note(f"{who}the present ticket plus {ticket - present}, {line}")
+        self.note(f"{who}a ticket kept over reset, {line}", ticket in self.over_reset[slot])
+        self.note(f"{who}a ticket kept over setup, {line}",
                   ticket in self.over_setup[slot] and (ticket not in self.given[slot] or line == "0"))
 
     def polled(self, before, body, line):

@@ -6,8 +6,8 @@ reach too, and what logs can't show. A replay has to be the packets that were se
 run ends with an error.
 """
 from grounds import control_answer
-from runs import (COUNTS, ENTRY_GROUNDS, PRIMITIVES, SCRIPT_COUNTS, STATES, counted, entry_ground, has_begun,
-                  in_transmit, is_paused, picture)
+from runs import (COUNTS, ENTRY_GROUNDS, PRIMITIVES, SCRIPT_COUNTS, SCRIPT_STATES, STATES, counted,
+                  entry_ground, has_begun, in_transmit, is_paused, picture)
 from second.endpoint import Idle, Process, requester
 from second.wire import CONTROL, REPLAY, control_request, message_header, packet_fields
 
@@ -24,8 +24,8 @@ ASKED = ("Pause", "Resume", "Get State", "Abort with MEB", "Abort with CIAP", "R
 CALLED = ("take 31", "complete 31", "timeout 37", "poll 0", "poll 1")
 OTHERS = ("0", "1", "19", "20", "Abort", "Replay", "Get State", "take 0", "complete 0", "timeout 0")
 KEPT = (*REFUSED, *ASKED, *CALLED, *(f"the other's {what}" for what in OTHERS))
-KEPT_IN_SCRIPTS = ("take 31", "complete 31", "40", "poll 36", "poll 40", "complete 40", "read",
-                   "other lengths lent")
+KEPT_IN_SCRIPTS = ("take 31", "complete 31", "declare 31", "40", "poll 36", "poll 40", "complete 40", "read",
+                   "other lengths lent", "the other's declare 0")
 
 # What it finds none after, in Idle. 0 and 1 are the answers to the first packet of a command that has ended
 # without a response.
@@ -66,10 +66,10 @@ def sent_goals(slot):
 
 def script_goals(slot):
     yield f"slot {slot}: Replay in Idle, with a response held"
-    yield from (f"slot {slot}: Replay in {state}" for state in STATES[1:])
+    yield from (f"slot {slot}: Replay in {state}" for state in SCRIPT_STATES[1:])
     yield from (f"slot {slot}: nothing to replay after {what}" for what in LOST_IN_SCRIPTS)
     yield from (f"slot {slot}: replayed after {what}" for what in KEPT_IN_SCRIPTS)
-    yield from (f"slot {slot}: replayed while the other is in {state}" for state in STATES)
+    yield from (f"slot {slot}: replayed while the other is in {state}" for state in SCRIPT_STATES)
     yield from (f"slot {slot}: a replay of {count} packets sent" for count in SCRIPT_COUNTS)
     yield f"slot {slot}: a replay of a replay sent"
     yield f"slot {slot}: a command taken after a replay"

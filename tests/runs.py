@@ -1,11 +1,12 @@
 """Runs records on the second program and notes what they reach.
 
-A goal is a short line of text. `reached` has those of the logs, `reached_calls`, `reached_requester` and
-`reached_units` those of the scripts, and `reached_replay` those of Replay for both.
+A goal is a short line of text. `reached` has those of the logs, `reached_calls`, `reached_requester`,
+`reached_units` and `reached_declare` those of the scripts, and `reached_replay` those of Replay for both.
 """
 import copy
 import io
 
+from second.endpoint import STORE
 from second.wire import ABORT, CONTROL, GET_STATE, PAUSE, REPLAY, RESUME, message_header, packet_fields
 from units import most_packets
 
@@ -15,11 +16,15 @@ HIGH_PARTS = (1 << 8, 1 << 16, 1 << 31)         # added to a slot or a ticket: t
 EIDS = {0: 38, 7: 38, 8: 0, 254: 0, 255: 38}
 
 STATES = ("Idle", "Receive", "Process untaken", "Process taken", "Process answered", "Transmit")
+STOPPABLE = "Process stoppable"                 # taken, and declared so that it can be stopped: not in a log
+SCRIPT_STATES = (*STATES[:4], STOPPABLE, *STATES[4:])
+TAKEN = ("Process taken", STOPPABLE)
 PRIMITIVES = {PAUSE: "Pause", RESUME: "Resume", ABORT: "Abort", GET_STATE: "Get State", REPLAY: "Replay"}
 COUNTS = (1, 2, 66)                             # packets of a message that is a goal of logs
 MOST = "the most"
 SCRIPT_COUNTS = (1, 2, MOST)                    # the same of scripts; how many are the most, the unit says
 ENTRY_GROUNDS = ("NMIMT", "MEB", "size")
+WRONG_STORES = {(False, True): "store 0", (True, False): "store 1", (False, False): "both stores"}
 
 def picture(endpoint):
     """The endpoint as it is now, to be looked at after a call; the stores are not copied."""
@@ -42,6 +47,10 @@ def packet_kind(packet, control):
 
 def is_paused(endpoint, slot):
     return slot < 2 and endpoint.paused >> slot & 1
+
+def wrong_stores(endpoint):
+    """Which of the lent stores have another length, or None if they are right."""
+    return WRONG_STORES.get(tuple(len(store) == STORE for store in endpoint.stores))
 
 def has_begun(endpoint, slot):
     """Whether the slot has sent a packet of its response and has more to send."""

@@ -22,9 +22,10 @@ TESTS = pathlib.Path(__file__).resolve().parent
 TOOL = TESTS.parent / "tools" / "explain.py"
 sys.path[:0] = [str(TESTS), str(TOOL.parent)]
 
-from explain import answers, cli, page, reading  # noqa: E402
+from explain import answers, cli, names, page, reading  # noqa: E402
 from generate import generate  # noqa: E402
 from records import POLL, RESET, ask, command, complete, control, damaged, packet, packets, record, take, timeout  # noqa: E402
+from second.endpoint import ABORT_CPSR  # noqa: E402
 from second.log import log_lines, records  # noqa: E402
 from second.wire import ABORT, GET_STATE, PAUSE, REPLAY, RESUME  # noqa: E402
 from programs import LOG  # noqa: E402
@@ -162,6 +163,11 @@ class Grounds(Case):
         self.says([take()], "31, slot 0 is not in Process: it is Idle")
         self.says([packet(command(8, ciap=1)), take()], "31, slot 0 is in Process, and its response is there")
 
+    def test_a_ticket_is_told_where_one_was_used(self):
+        for log in ([], [START], [packet(command(8, ciap=1))]):
+            self.says([*log, complete(BODY)], "31, ", "; it used ticket 0, since none was taken there; ")
+            self.assertNotIn("ticket", last([*log, take()]))
+
     def test_other_calls(self):
         self.says([take(2)], "30, there is no slot 2")
         self.says([*WAITING, take()], "33, taken already")
@@ -208,6 +214,23 @@ class Control(Case):
         self.says([START, ask(PAUSE), ask(RESUME)], "clears the pause flag of slot 0",
                   "the reply to Pause for both slots of record 2, which waited, is replaced")
         self.says([*WAITING, ask(ABORT)], "aborts what slot 0 had: slot 0 Process taken")
+
+    def test_abort_in_a_log(self):
+        """A log has no declaration, so that the Abort of each taken command reports 2."""
+        for log, words in (([], "0: there was nothing to stop: it was Idle, or its response was there"),
+                           ([START], "1: it was in Receive, or in Process and not taken"),
+                           ([packet(command())], "1: it was in Receive, or in Process and not taken"),
+                           (WAITING, "2: it was taken"),
+                           ([*WAITING, complete(BODY)], "0: there was nothing to stop: it was Idle, or its "
+                                                        "response was there")):
+            for found in objects([*log, ask(ABORT), POLL])[-3:-1]:          # the Abort, and its reply
+                ends = [part.partition("TAG 5ah, CPSR ")[2] for part in found["words"]]
+                self.assertIn(words, ends)
+        self.assertEqual(objects(record(48, bytes(9)))[0]["fields"]["cause"], "unknown tag 48")
+
+    def test_every_state_has_its_words(self):
+        self.assertEqual(set(names.STATES), set(ABORT_CPSR))
+        self.assertEqual(len(set(names.STATES.values())), len(names.STATES))
 
     def test_errors(self):
         self.assertIn("error 04h (invalid parameter) at byte 2 bit 0, MEB; it did not act", self.reply(ask(PAUSE, meb=1)))

@@ -69,6 +69,38 @@ class Misreporting(Second):
         return found
 
 
+class Untrue(Second):
+    """A program that reports another CPSR for the Abort of a taken command: 1 for 2, and 2 for 1."""
+
+    def line(self, record):
+        states = [self.calls.endpoint.state(slot) for slot in (0, 1)]
+        found, endpoint = super().line(record), self.calls.endpoint
+        if record[0] == 18 and found == "2" and [endpoint.state(slot) for slot in (0, 1)] != states:
+            who, message = endpoint.reply
+            endpoint.reply = who, response(0, 0, success(message[5], 3 - message[6]))
+        return found
+
+
+class Accepting(Second):
+    """A program that takes every declaration, and does nothing."""
+
+    def line(self, record):
+        return "0" if record[0] == 48 else super().line(record)
+
+
+class Altered(Second):
+    """A program whose looks have something else at a place, once a record of this tag has come."""
+
+    def __init__(self, tag, place, other):
+        super().__init__()
+        self.tag, self.place, self.other, self.begun = tag, place, other, False
+
+    def line(self, record):
+        self.begun |= record[0] == self.tag
+        found = super().line(record)
+        return found.replace(self.place, self.other) if self.begun and record[0] == 25 else found
+
+
 class WithoutRequester(Second):
     """A program that does not know the requester's records."""
 
@@ -345,6 +377,265 @@ class Telling(Case):
             program = Printing()
             program.looks = {25: program.looks[25].replace("slot1=0,0,0,idle", f"slot1=0,0,0,{phase}")}
             with self.subTest(phase), self.assertRaisesRegex(Trouble, f"{phase} check0=.*, which is no state"):
+                self.begin(program)
+
+
+class Declaring(Case):
+    """A taken command that can be stopped, or no longer can."""
+
+    ODD = "!! the answer does not go with what a look shows"
+    TAKEN = "command mi 20", "take 0"
+    CAN = "slot 0 Process taken (can be stopped), 20 bytes from EID 9 under tag 1, ticket 1"
+    CANNOT = "slot 0 Process taken, 20 bytes from EID 9 under tag 1, ticket 1"
+    STOPPED = "CPSR 1: it was taken, and was stopped with no effect, as the drive's software had declared\n"
+    EFFECT = "CPSR 2: it was taken, and may have had an effect\n"
+    EITHER = "CPSR 1: it was in Receive, or in Process and not taken, or taken and stopped with no effect\n"
+
+    def answer(self, line):
+        """The line's answer with its words, and what stands below it."""
+        return self.does(line).partition("-> ")[2]
+
+    def aborted(self, words, slot=0):
+        """An Abort says this when it comes, and its reply when it goes."""
+        self.says(f"control abort slot {slot} tag 7", f"its reply is TAG 07h, {words}")
+        self.says("poll", f"the reply to Abort for slot {slot} of record", f"TAG 07h, {words}")
+
+    def test_records(self):
+        for line, body in (("declare 0 1 can", "00000000 01000000 01"),
+                           ("declare 1 0x102 cannot", "01000000 02010000 00"),
+                           ("declare 4294967295 FFFFFFFEh can", "ffffffff feffffff 01"),
+                           ("declare 0 taken cannot", "00000000 02000000 00"),
+                           ("declare 1 taken can", "01000000 00000000 01")):
+            self.begin(save=io.BytesIO())
+            self.does(*self.TAKEN, "reset", *self.TAKEN)
+            start, expected = self.session.save.tell(), bytes.fromhex("30 0900" + body)
+            self.does(line)
+            self.assertEqual(self.session.save.getvalue()[start:][:12], expected, line)
+
+    def test_can(self):
+        self.does(*self.TAKEN)
+        self.assertEqual(self.does("declare 0 taken can"), (
+            "     3  declare of slot 0 with ticket 1: the command can still be stopped\n"
+            "        -> 0, declared: it used ticket 1, taken at record 2; the slot's present one is 1; "
+            "an Abort now reports CPSR 1: stopped with no effect\n"
+            "           slot 0 goes from Process taken to Process taken (can be stopped)\n"
+            f"        = {self.CAN}; slot 1 Idle, ticket 0\n"))
+
+    def test_cannot(self):
+        self.does(*self.TAKEN, "declare 0 taken can")
+        self.assertEqual(self.does("declare 0 1 cannot"), (
+            "     4  declare of slot 0 with ticket 1: the command can no longer be stopped\n"
+            "        -> 0, declared: it used ticket 1, taken at record 2; the slot's present one is 1; "
+            "an Abort now reports CPSR 2: it may have had an effect\n"
+            "           slot 0 goes from Process taken (can be stopped) to Process taken\n"
+            f"        = {self.CANNOT}; slot 1 Idle, ticket 0\n"))
+
+    def test_the_same_again(self):
+        """A take starts at cannot."""
+        self.does(*self.TAKEN)
+        for mark, same in (("cannot", True), ("can", False), ("can", True), ("cannot", False)):
+            found = self.does(f"declare 0 taken {mark}", "expect 0")
+            self.assertEqual("nothing changed: it was so before\n" in found, same, mark)
+            self.assertEqual("goes from" in found, not same, mark)
+
+    def test_looks(self):
+        self.does(*self.TAKEN, "command slot 1 mi 20 tag 3", "take 1", "declare 1 taken can")
+        self.says("look", f"{self.CANNOT}; its store: 4,224 bytes",
+                  "slot 1 Process taken (can be stopped), 20 bytes from EID 9 under tag 3, ticket 1; its")
+        self.does("declare 1 taken cannot", "declare 0 taken can")
+        self.says("look", f"{self.CAN}; its store: 4,224 bytes",
+                  "slot 1 Process taken, 20 bytes from EID 9 under tag 3, ticket 1; its")
+
+    def test_expectations(self):
+        self.does(*self.TAKEN, "expect slot 0 taken")
+        self.refuses("expect slot 0 stoppable", "expected stoppable, and slot 0 was taken", Unexpected)
+        self.does("declare 0 taken can", "expect 0", "expect line 0", "expect slot 0 stoppable")
+        for state in ("taken", "untaken", "idle", "answered"):
+            self.refuses(f"expect slot 0 {state}", f"expected {state}, and slot 0 was stoppable", Unexpected)
+        self.refuses("expect slot 1 stoppable", "expected stoppable, and slot 1 was idle", Unexpected)
+        self.does("declare 0 taken cannot", "expect slot 0 taken")
+
+    def test_30(self):
+        for slot in (2, 4294967295):
+            self.says(f"declare {slot} taken can", f"declare of slot {slot} with ticket 0: the command can",
+                      f"30, there is no slot {slot}, only 0 and 1\n", "nothing changed\n")
+
+    def test_31(self):
+        no_process = "31, slot 0 is not in Process: it is"
+        self.says("declare 0 taken can", f"{no_process} Idle; it used ticket 0, which no take of that slot "
+                  "gave; the slot's present one is 0\n", "nothing changed\n")
+        self.does("command mi 100 only 1")
+        self.says("declare 0 0 can", f"{no_process} in Receive; it used ticket 0, ")
+        self.does("command mi 20 ciap", "take 0", "complete 0 taken zeros 4")
+        self.says("declare 0 1 can", "31, slot 0 is in Process, and its response is there; it used ticket 1, "
+                  "taken at record 5; the slot's present one is 1\n")
+        self.does("control resume")
+        self.says("declare 0 1 cannot", f"{no_process} in Transmit; it used ticket 1, taken at record 5; ")
+
+    def test_32(self):
+        not_present = "32, the ticket is not the slot's present one: it used ticket"
+        self.does(*self.TAKEN, "reset", *self.TAKEN)
+        self.says("declare 0 1 can", f"{not_present} 1, taken at record 2; the slot's present one is 2\n",
+                  "nothing changed\n")
+        self.says("declare 0 4294967295 cannot", f"{not_present} 4,294,967,295, which no take of that slot "
+                  "gave; the slot's present one is 2\n")
+        self.does("expect slot 0 taken")
+
+    def test_34(self):
+        self.does("command mi 20")
+        self.says("declare 0 1 can", "34, not taken\n", "nothing changed\n")
+        self.does("expect slot 0 untaken")
+
+    def test_the_order(self):
+        """Of several grounds the first is told: no slot, no command, another ticket, not taken."""
+        self.answers("declare 2 9 can", 30)
+        self.answers("declare 0 9 can", 31)
+        self.does("command mi 20")
+        self.answers("declare 0 9 can", 32)
+        self.answers("declare 0 1 can", 34)
+
+    def test_grounds_are_those_of_a_completion(self):
+        self.does("command mi 20", "take 0", "reset")
+        for line, numbers in (("reset", (30, 31, 31)), ("command mi 100 only 1", (30, 31, 31)),
+                              ("command mi 20", (30, 32, 34)), ("take 0", (30, 32)),
+                              ("complete 0 taken zeros 4", (30, 31, 31))):
+            self.does(line)
+            for slot, ticket, number in zip((2, 0, 0), (1, 1, 2), numbers):
+                found = self.answer(f"declare {slot} {ticket} can")
+                self.assertTrue(found.startswith(f"{number}, "), found)
+                self.assertEqual(found, self.answer(f"complete {slot} {ticket} zeros 4"), line)
+
+    def test_no_store_is_lent(self):
+        self.does(*self.TAKEN, "stores 0 4300")
+        self.answers("complete 0 taken zeros 4", 40)
+        self.answers("declare 0 taken can", 0)
+        self.does("expect slot 0 stoppable")
+
+    def test_abort(self):
+        self.does(*self.TAKEN)
+        self.aborted(self.EFFECT)
+        self.does(*self.TAKEN, "declare 0 taken can")
+        self.aborted(self.STOPPED)
+        self.does(*self.TAKEN, "declare 0 taken can", "declare 0 taken cannot")
+        self.aborted(self.EFFECT)
+        self.does(*self.TAKEN, "declare 0 taken can", "declare 0 taken cannot", "declare 0 taken can")
+        self.says("control abort tag 7", "aborts what slot 0 had: slot 0 Process taken (can be stopped)",
+                  "slot 0 goes from Process taken (can be stopped) to Idle", "= slot 0 Idle, ticket 4")
+
+    def test_abort_of_each_slot(self):
+        self.does(*self.TAKEN, "command slot 1 mi 20 tag 3", "take 1", "declare 1 taken can")
+        self.aborted(self.EFFECT)
+        self.aborted(self.STOPPED, 1)
+
+    def test_abort_of_others(self):
+        """In other states an Abort says what it said."""
+        receive = "CPSR 1: it was in Receive, or in Process and not taken\n"
+        nothing = "CPSR 0: there was nothing to stop: it was Idle, or its response was there\n"
+        for lines, words in ((["command mi 100 only 1"], receive), (["command mi 20"], receive),
+                             (["command mi 100 only 1 tag 2"], nothing), (["reset"], nothing),
+                             (["command mi 19"], nothing),
+                             ([*self.TAKEN, "declare 0 taken can", "complete 0 taken zeros 4"], nothing)):
+            with self.subTest(lines):
+                self.does(*lines)
+                self.aborted(words)
+                self.does("reset")
+
+    def test_the_next_command_starts_without_it(self):
+        for end in ("control abort", "reset", "complete 0 taken zeros 4"):
+            self.begin()
+            self.does(*self.TAKEN, "declare 0 taken can", end, "polls", *self.TAKEN, "expect slot 0 taken")
+            self.aborted(self.EFFECT)
+
+    def test_it_stays(self):
+        """No other call changes what was declared, and none is in its way."""
+        self.does(*self.TAKEN, "declare 0 taken can")
+        state = "Process taken (can be stopped)"
+        for line, words in (("take 0", f"33, taken already: {self.CAN}"), ("read 0", "-> 20 bytes"),
+                            ("command mi 20 tag 4", f"20, the command's slot is not Idle: {self.CAN}"),
+                            ("timeout 0", f"37, slot 0 is not in Receive: it is in {state}"),
+                            ("control replay", f"since the slot was not Idle but in {state}"),
+                            ("control get-state", "state Process, not paused"), ("polls", "0, nothing to"),
+                            ("control pause", "sets the pause flag of slot 0"), ("control resume", "clears"),
+                            ("control abort meb", "it did not act"), ("complete 0 9 zeros 4", "32, "),
+                            ("complete 0 taken zeros 3", "35, "), ("command slot 1 mi 20", "slot 1 enters"),
+                            ("control abort slot 1", "CPSR 1: it was in Receive")):
+            self.says(line, words)
+            self.does("expect slot 0 stoppable")
+        self.says("complete 0 taken zeros 4", f"slot 0 goes from {state} to Transmit")
+
+    def test_what_the_requester_is_told(self):
+        """It does not see the slot: CPSR 1 can be of a command that was not taken."""
+        self.does("requester setup 9", "requester primitive abort tag 7")
+        for lines, words in (([*self.TAKEN, "declare 0 taken can"], self.EITHER), (self.TAKEN, self.EFFECT),
+                             (["command mi 20"], self.EITHER), (["reset"], "CPSR 0: there was nothing to")):
+            self.does(*lines, "deliver endpoint", "poll", "requester await 8 2")
+            self.says("deliver requester", f"the reply to Abort for slot 0 of record 2: TAG 07h, {words}")
+
+    def test_records_as_they_are(self):
+        self.does(*self.TAKEN)
+        self.says("record 48 00000000 01000000 01", "declare of slot 0 with ticket 1: the command can still",
+                  "0, declared: ", f"= {self.CAN}")
+        self.refuses("record 48 00000000 01000000 02", "record 4: the program printed bad and ended", Trouble)
+        for body in ("", "00000000 01000000", "00000000 01000000 02", "00000000 01000000 01 00"):
+            self.begin(Printing("17"))          # none of them is a call
+            self.says(f"record 48 {body}", "record with tag 48", "-> 17")
+
+    def test_lines_that_are_none(self):
+        for line in ("x", "", "0 1", "1", "33", "35", "40", "10"):
+            self.begin(Printing(line))
+            self.refuses("declare 0 1 can", f"record 1: {line!r} is no line for this call", Trouble)
+
+    def test_a_declaration_of_no_taken_command(self):
+        for slot in (0, 1, 2):
+            self.begin(Printing("0"))
+            found = self.does(f"declare {slot} 1 can")
+            self.assertTrue(found.endswith(f"-> 0, declared\n        {self.ODD}\n"), found)
+        self.begin(Accepting())
+        for line in ("reset", "command mi 100 only 1", "command mi 20", "take 0", "complete 0 taken zeros 4"):
+            self.does(line)
+            for mark in ("can", "cannot"):
+                found = self.does(f"declare 0 1 {mark}")
+                self.assertEqual(self.ODD in found, (line, mark) != ("take 0", "cannot"), (line, mark))
+
+    def test_a_declaration_that_is_wrong(self):
+        """It has to leave what it declares, and change nothing else."""
+        can = "slot0=1,0,0,process:9:1:1:20:can"
+        for place, other in ((can, "slot0=1,0,0,process:9:1:1:20:taken"),
+                             (can, "slot0=1,0,0,process:9:1:1:20:untaken"),
+                             (can, "slot0=1,0,0,process:9:1:1:24:can"),
+                             (can, "slot0=2,0,0,process:9:1:1:20:can"),
+                             (can, "slot0=1,1,0,process:9:1:1:20:can"),
+                             (can, "slot0=1,0,1,process:9:1:1:20:can"), (can, "slot0=1,0,0,idle"),
+                             ("slot1=0,0,0,idle", "slot1=0,0,0,process:9:1:1:20:can"),
+                             ("flags=0000", "flags=0400"), ("reply=-", "reply=9:2:8480000000000000bb5b1a3c")):
+            with self.subTest(other):
+                self.begin(Altered(48, place, other))
+                self.does(*self.TAKEN)
+                self.says("declare 0 taken can", f"-> 0, declared\n        {self.ODD}")
+        self.begin(Altered(48, can, can))
+        self.does(*self.TAKEN)
+        self.assertNotIn(self.ODD, self.does("declare 0 taken can", "declare 0 taken cannot"))
+
+    def test_a_refusal_that_changes_something(self):
+        self.begin(Altered(48, "flags=0000", "flags=0400"))
+        self.assertNotIn("nothing changed", self.does("declare 0 1 can"))
+
+    def test_an_abort_that_is_wrong(self):
+        """Nothing is told of the slot, with the Abort and with its reply."""
+        for mark, words in (("can", self.EFFECT), ("cannot", self.EITHER)):
+            self.begin(Untrue())
+            self.does(*self.TAKEN, f"declare 0 taken {mark}")
+            found = self.does("control abort")
+            self.assertIn(f"2, a control primitive was answered\n        {self.ODD}", found)
+            self.assertNotIn("its reply is", found)
+            self.says("poll", f"the reply to Abort for slot 0 of record 4: TAG 00h, {words}")
+
+    def test_looks_that_are_none(self):
+        for taking in ("", "stoppable", "cannot", "1", "can:1"):
+            program = Printing()
+            phase = f"slot0=1,0,0,process:9:1:1:20:{taking}"
+            program.looks = {25: program.looks[25].replace("slot0=0,0,0,idle", phase)}
+            with self.subTest(taking), self.assertRaisesRegex(Trouble, f"{phase} slot1=.*which is no state"):
                 self.begin(program)
 
 
@@ -856,7 +1147,20 @@ class Lines(Case):
                 ("packet zeros", "expected a number of bytes for zeros"),
                 ("packet zeros 8000 ones 8000", "expected at most 8,192 bytes"),
                 ("complete 0", "expected a ticket, 0 to 4,294,967,295, or taken, and the line ends"),
-                ("complete 0 x", "and there is 'x'"), ("poll 65536", "expected a buffer's length, 0 to 65,535"),
+                ("complete 0 x", "and there is 'x'"),
+                ("declare", "expected a slot, 0 to 4,294,967,295, and the line ends"),
+                ("declare x 1 can", "expected a slot, 0 to 4,294,967,295, and there is 'x'"),
+                ("declare 4294967296 1 can", "and there is '4294967296'"),
+                ("declare 0", "expected a ticket, 0 to 4,294,967,295, or taken, and the line ends"),
+                ("declare 0 can", "expected a ticket, 0 to 4,294,967,295, or taken, and there is 'can'"),
+                ("declare 0 4294967296 can", "or taken, and there is '4294967296'"),
+                ("declare 0 1", "expected can or cannot, and the line ends"),
+                ("declare 0 taken stop", "expected can or cannot, and there is 'stop'"),
+                ("declare 0 taken can't", "expected can or cannot, and there is \"can't\""),
+                ("declare 0 1 1", "expected can or cannot, and there is '1'"),
+                ("declare 0 1 Can", "expected can or cannot, and there is 'Can'"),
+                ("declare 0 1 can 1", "expected the end of the line, and there is '1'"),
+                ("poll 65536", "expected a buffer's length, 0 to 65,535"),
                 ("stores 4301 0", "expected the length of store 0, 0 to 4,300"), ("stores 1", "expected the length of store 1"),
                 ("reset 1", "expected the end"),
                 ("expect", "expected an answer's number, slot, body, line, awaits, gathered or unit"),
@@ -865,6 +1169,7 @@ class Lines(Case):
                 ("expect unit endpoint", "expected a unit, 0 to 65,535, and the line ends"),
                 ("expect unit endpoint 64 64", "expected the end of the line"),
                 ("expect x", "expected an answer's number"), ("expect slot 0 busy", "expected one of idle, receive"),
+                ("expect slot 0 can", "expected one of idle, receive, untaken, taken, stoppable, answered, "),
                 ("expect 0", "expected a call above"), ("help x", "expected one of setup"),
                 ("help requester x", "and there is 'requester x'")):
             self.refuses(line, words)
@@ -930,6 +1235,9 @@ class Lines(Case):
             self.assertIn(word.usage, found)
         self.says("help command", "bad-check", "a wrong integrity check")
         self.says("help control", "control pause|resume|abort|get-state|replay|OPCODE [slot N]", "Replay takes only 0")
+        self.says("help declare", "declare SLOT TICKET can|cannot", "can still be stopped with no effect",
+                  "CPSR 1 or 2", "a take starts at cannot")
+        self.says("help expect", "untaken, taken, stoppable, answered", "stoppable for a taken one that can")
         self.says("help requester primitive", "requester primitive pause|resume|abort|get-state|replay|OPCODE [slot N]")
         self.says("help setup", "setup EID [unit UNIT]", "64 to 250 (64 if not given)")
         self.says("help requester setup", "requester setup EID [unit UNIT]", "64 to 250 (64 if not given)")
@@ -947,6 +1255,10 @@ class Lines(Case):
         self.assertEqual(cli.completion("control ", "get", 0), "get-state ")
         self.assertEqual(cli.completion("control ", "rep", 0), "replay ")
         self.assertEqual(cli.completion("command slot 0 ", "bad", 0), "bad-check ")
+        self.assertEqual(cli.completion("", "dec", 0), "declare ")
+        self.assertEqual([cli.completion("declare 0 ", "", place) for place in range(4)],
+                         ["taken ", "can ", "cannot ", None])
+        self.assertEqual(cli.completion("expect slot 0 ", "sto", 0), "stoppable ")
         self.assertEqual(cli.completion("", "req", 0), "requester ")
         self.assertIsNone(cli.completion("", "req", 1))
         self.assertEqual(cli.completion("requester ", "p", 0), "primitive ")
@@ -978,7 +1290,8 @@ class Tool(unittest.TestCase):
     def test_a_script(self):
         with tempfile.TemporaryDirectory() as folder:
             saved = pathlib.Path(folder) / "saved"
-            for script, line in (("stale-ticket.try", "expect 32"), ("both-ends.try", "expect line 1 4224")):
+            for script, line in (("stale-ticket.try", "expect 32"), ("both-ends.try", "expect line 1 4224"),
+                                 ("declare.try", "expect slot 0 stoppable")):
                 ran = self.run_it(TESTS / "try" / script, "--save", saved)
                 self.ended(ran, 0)
                 self.assertIn(f"> {line}\n", ran.stdout)

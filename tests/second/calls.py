@@ -14,6 +14,8 @@ SETUP, STORES, RECEIVE, TAKE, READ, COMPLETE, POLL, TIMEOUT, RESET, LOOK = range
 (REQUESTER_SETUP, REQUESTER_STORE, REQUESTER_AWAIT, REQUESTER_CUT, REQUESTER_PRIMITIVE, REQUESTER_RECEIVE,
  REQUESTER_LOOK) = range(32, 39)
 
+DECLARE = 48
+
 MEMORY = 4300               # "A store is 4,300 bytes of memory, zeros, whose front is lent"
 LONGEST_BODY = 8192         # "a body of that many bytes, at most 8,192"
 UNTOUCHED = b"\xa5"         # "lent anew at just that length, every byte A5h"
@@ -23,7 +25,7 @@ LENGTHS = {SETUP: (1, 3), STORES: (4, 4), RECEIVE: (0, LONGEST_BODY), TAKE: (4, 
            COMPLETE: (8, LONGEST_BODY), POLL: (2, 2), TIMEOUT: (4, 4), RESET: (0, 0), LOOK: (0, 0),
            REQUESTER_SETUP: (1, 3), REQUESTER_STORE: (2, 2), REQUESTER_AWAIT: (2, 2),
            REQUESTER_CUT: (4, LONGEST_BODY), REQUESTER_PRIMITIVE: (12, 12),
-           REQUESTER_RECEIVE: (0, LONGEST_BODY), REQUESTER_LOOK: (0, 0)}
+           REQUESTER_RECEIVE: (0, LONGEST_BODY), REQUESTER_LOOK: (0, 0), DECLARE: (9, 9)}
 
 # "Numbers in a record are low byte first; slots and tickets are full 32-bit numbers."
 NUMBER, TWO_NUMBERS, LENGTH, TWO_LENGTHS = (struct.Struct(form) for form in ("<I", "<II", "<H", "<HH"))
@@ -35,6 +37,8 @@ CUT = struct.Struct("<BBH")
 # "destination (1), message tag (1), slot (4), opcode (1), the primitive's TAG (1), CPSP (2),
 # buffer's length (2)"
 PRIMITIVE = struct.Struct("<BBIBBHH")
+# "slot (4), ticket (4), and 1: the taken command can still be stopped, or 0: it no longer can (1)"
+DECLARATION = struct.Struct("<IIB")
 
 # The records that change what is lent
 LENT = {STORES: TWO_LENGTHS, REQUESTER_STORE: LENGTH}
@@ -56,6 +60,10 @@ def is_bad(tag, data):
     # "length lent from now on (2), above 4,300 `bad`"
     if tag in LENT:
         return max(LENT[tag].unpack(data)) > MEMORY
+    # "a declaration other than 0 and 1"
+    if tag == DECLARE:
+        _, _, stoppable = DECLARATION.unpack(data)
+        return stoppable not in (0, 1)
     # "a body's length that the tag can't have": one byte of U alone
     return tag in SETUPS and len(data) not in (EID.size, EID_AND_UNIT.size)
 
@@ -82,12 +90,17 @@ def named(values):
     """What a look prints of a state."""
     return " ".join(f"{name}={value}" for name, value in values.items())
 
+def shown_taking(job):
+    """ "it was not taken"; "`taken` while it can't be stopped, `can` while it can" """
+    if not job.taken:
+        return "untaken"
+    return "can" if job.stoppable else "taken"
+
 # What a look prints of a slot, behind its ticket and its two flags
 PHASES = {
     Idle: lambda job: "idle" if job.held is None else joined("idle", *job.held.who, job.held.length),
     Receive: lambda job: joined("receive", *job.who, job.sequence, job.length),
-    Process: lambda job: joined("process", *job.who, job.header.nmimt, job.length,
-                                "taken" if job.taken else "untaken"),
+    Process: lambda job: joined("process", *job.who, job.header.nmimt, job.length, shown_taking(job)),
     Answered: lambda job: joined("answered", *job.who, job.response),
     Transmit: lambda job: joined("transmit", *job.who, job.length, job.sent)}
 
@@ -196,7 +209,7 @@ class Calls:
         self.setup(EID_AND_UNIT.pack(BASE_EID, BASE_UNIT))
         self.calls = {SETUP: self.setup, STORES: self.stores, RECEIVE: self.receive, TAKE: self.take,
                       READ: self.read, COMPLETE: self.complete, POLL: self.poll, TIMEOUT: self.timeout,
-                      RESET: self.reset, LOOK: self.look, **RequesterCalls().calls}
+                      RESET: self.reset, LOOK: self.look, DECLARE: self.declare, **RequesterCalls().calls}
 
     def line(self, tag, data):
         """Do what the record says; the line that it prints."""
@@ -232,6 +245,10 @@ class Calls:
     def complete(self, data):
         slot, ticket = TWO_NUMBERS.unpack(data[:8])
         return self.endpoint.complete(slot, Ticket(ticket), data[8:])
+
+    def declare(self, data):
+        slot, ticket, stoppable = DECLARATION.unpack(data)
+        return self.endpoint.declare(slot, Ticket(ticket), bool(stoppable))
 
     def poll(self, data):
         length, = LENGTH.unpack(data)

@@ -5,12 +5,14 @@
     endpoint.take(slot)                    -> (0, Ticket) or (refusal, None)
     endpoint.read(slot)                    -> memoryview of the slot's store, may be empty
     endpoint.complete(slot, Ticket, body)  -> answer
+    endpoint.declare(slot, Ticket, stoppable)             -> answer
     endpoint.poll(buffer_length)           -> (answer, packet); empty unless the answer is 1
 
 To look at it, changing nothing:
 
-    .state(slot)       'Idle', 'Receive', 'Process untaken', 'Process taken',
-                       'Process answered' (its response is there) or 'Transmit'
+    .state(slot)       'Idle', 'Receive', 'Process untaken', 'Process taken' (it can't be stopped),
+                       'Process stoppable' (taken, and it can), 'Process answered' (its response
+                       is there) or 'Transmit'
     .held(slot)        ((source, tag), length) of the response that an Idle slot still holds, else None
     .flags_word(slot)  the CPSR that Get State would report for the slot
     .eid, .unit        its EID and U
@@ -49,7 +51,7 @@ Held = namedtuple("Held", "who length")
 
 Idle = namedtuple("Idle", "held")                                   # held: a Held, or None
 Receive = namedtuple("Receive", "who header sequence length")       # length: bytes gathered so far
-Process = namedtuple("Process", "who header length taken")          # length: the request's
+Process = namedtuple("Process", "who header length taken stoppable")    # length: the request's
 Answered = namedtuple("Answered", "who length response")            # the request's length, the response's
 Transmit = namedtuple("Transmit", "who length sent")                # the response's length, packets sent
 
@@ -59,8 +61,8 @@ IDLE = Idle(None)
 STATE_BITS = {Idle: 0, Receive: 1, Process: 2, Answered: 2, Transmit: 3}
 
 # "CPSR: Idle 0, Receive 1, Process untaken 1, Process taken 2, Process with its response there 0,
-# Transmit 0."
-ABORT_CPSR = {"Idle": 0, "Receive": 1, "Process untaken": 1, "Process taken": 2,
+# Transmit 0."; "Abort of a taken command reports 1 or 2 accordingly": 1 while it "can still be stopped"
+ABORT_CPSR = {"Idle": 0, "Receive": 1, "Process untaken": 1, "Process stoppable": 1, "Process taken": 2,
               "Process answered": 0, "Transmit": 0}
 
 SLOT_BIT = (3, 19)                      # where `flags` keeps bit 3 of slots 0 and 1
@@ -120,7 +122,9 @@ class Endpoint:
     def state(self, slot):
         job = self.jobs[slot]
         if isinstance(job, Process):
-            return "Process taken" if job.taken else "Process untaken"
+            if not job.taken:
+                return "Process untaken"
+            return "Process stoppable" if job.stoppable else "Process taken"
         if isinstance(job, Answered):
             return "Process answered"
         return type(job).__name__
@@ -277,7 +281,7 @@ class Endpoint:
     def enter_process(self, slot, who, header, length):
         # "The slot's ticket count rises by one; the ticket count goes from 4,294,967,295 to 0 when it wraps."
         self.counts[slot] = (self.counts[slot] + 1) % (1 << 32)
-        self.jobs[slot] = Process(who, header, length, False)
+        self.jobs[slot] = Process(who, header, length, taken=False, stoppable=False)
         # "With CIAP 1, Pause then acts (without a reply)."
         if header.ciap:
             self.pause()
@@ -345,7 +349,7 @@ class Endpoint:
             return 31, None
         if job.taken:
             return 33, None
-        self.jobs[slot] = job._replace(taken=True)
+        self.jobs[slot] = job._replace(taken=True, stoppable=False)     # "Taking starts at "can't"."
         return 0, Ticket(self.counts[slot])
 
     def read(self, slot):
@@ -359,21 +363,39 @@ class Endpoint:
             return memoryview(b"")
         return memoryview(self.stores[slot])[:job.length].toreadonly()
 
-    def complete(self, slot, ticket, body):
-        if not self.stores_fit():
-            return 40
+    def taken_refusal(self, slot, ticket):
+        """The refusal of a call on the taken command that the ticket is for, or None if it is there."""
+        # "Completing: 30; 31; 32 ticket not the slot's present one; 34 not taken", and for declaring
+        # "refusals in order 30, 31, 32, 34"
         if slot > 1:
             return 30
         job = self.jobs[slot]
-        if not isinstance(job, Process):
+        if not isinstance(job, Process):                    # "not in Process, or its response is there"
             return 31
-        if ticket != Ticket(self.counts[slot]):             # "32 ticket not the slot's present one"
+        if ticket != Ticket(self.counts[slot]):
             return 32
         if not job.taken:
             return 34
+        return None
+
+    def complete(self, slot, ticket, body):
+        if not self.stores_fit():
+            return 40
+        refusal = self.taken_refusal(slot, ticket)
+        if refusal is not None:
+            return refusal
         if not 4 <= len(body) <= 4216:
             return 35
         self.respond(slot, body)                            # "The body runs from byte 4 (status)."
+        return 0
+
+    def declare(self, slot, ticket, stoppable):
+        """ "declare, with slot and ticket, that the taken command can still be stopped, or no longer can" """
+        # "refusals in order 30, 31, 32, 34, else 0": no store is lent, so there is no 40
+        refusal = self.taken_refusal(slot, ticket)
+        if refusal is not None:
+            return refusal
+        self.jobs[slot] = self.jobs[slot]._replace(stoppable=stoppable)
         return 0
 
     def timeout(self, slot):

@@ -18,8 +18,10 @@ DESCRIPTION = "Explains a log: each record with its answer in words, what else i
 
 EPILOG = """
 The answers are the log program's own: ./mi-log is run on the log, and proves and builds itself first where a source has
-changed. Its EID is 8 and its transmission unit 64: a packet above 68 bytes gets 11. What the slots are is not in a log, so
-it is followed with the second program of tests/; a line with !! says so if that program would have answered otherwise.
+changed. Its EID is 8 and its transmission unit 64: a packet above 68 bytes gets 11. It has no record by which
+a drive declares that a command can be stopped: an Abort of a taken command reports 2. What the slots are is
+not in a log, so it is followed with the second program of tests/; a line with !! says so if that program
+would have answered otherwise.
 
 --slot, --source, --from, --to and --refusals can be combined; a record is shown if all of them want it. The slots are
 followed through all records, and records keep their numbers in the whole log. The summary is of the whole log. A page has

@@ -9,15 +9,16 @@ from second.endpoint import Receive, Transmit
 from second.log import COMPLETE, PACKET, POLL, RESET, TAKE, TIMEOUT, Log
 from second.wire import CONTROL, PAUSE, REPLAY, RESUME, control_request, message_header, packet_fields, success
 
-from .names import DONE, REFUSALS
+from .names import ABORTED, DONE, REFUSALS
 
 # The slots and what belongs to both, as the second program has them. words: what Get State would report for each slot;
 # held: the last response, for each slot that is Idle and still holds it; unit: the bytes of a full payload
 View = namedtuple("View", "jobs states paused words counts reply held unit")
 
-# A control primitive that was answered: the record that brought it, the body of the reply that then waited, and the slots then,
-# where they are known
-Primitive = namedtuple("Primitive", "record opcode slot who tag cpsp body after", defaults=(None,))
+# A control primitive that was answered: the record that brought it, the body of the reply that then waited,
+# the slots then, where they are known, and what each CPSR of an Abort says
+Primitive = namedtuple("Primitive", "record opcode slot who tag cpsp body after aborted",
+                       defaults=(None, ABORTED))
 
 REQUEST = 0x84              # the first byte of every NVMe-MI message with an integrity check
 HEADER = 4                  # bytes of a packet's header, and of a message's

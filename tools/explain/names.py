@@ -77,12 +77,13 @@ FLAGS = {
 }
 STATE_NAMES = ("Idle", "Receive", "Process", "Transmit")
 
-# The states of a slot, as the second program names them
+# The states of a slot, as the second program names them. A log has no record that makes a command stoppable.
 STATES = {
     "Idle": "Idle",
     "Receive": "Receive",
     "Process untaken": "Process untaken",
     "Process taken": "Process taken",
+    "Process stoppable": "Process taken (can be stopped)",
     "Process answered": "Process with its response there",
     "Transmit": "Transmit",
 }
@@ -118,7 +119,7 @@ STATUS = {
 }
 INVALID_PARAMETER = 0x04
 
-# The CPSR of Abort
+# The CPSR of Abort in a log, which has no taken command that can be stopped
 ABORTED = {
     0: "there was nothing to stop: it was Idle, or its response was there",
     1: "it was in Receive, or in Process and not taken",

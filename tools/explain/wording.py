@@ -4,9 +4,9 @@ from second.log import COMPLETE, PACKET, POLL, RESET, TAKE, TIMEOUT
 from second.wire import ABORT, CONTROL, GET_STATE, PAUSE, REPLAY, RESUME, crc32c, error
 
 from .following import HEADER, REQUEST, is_lost, is_paused, left_for_idle, packets_of
-from .names import (ABORTED, DONE, FLAGS, INVALID_PARAMETER, KINDS, MESSAGES, OPCODES, PRIMITIVES,
-                    REFUSAL_FLAG, STATE_NAMES, STATES, STATUS, count, field_at, flags_set, listed,
-                    longest_words, number, refusals)
+from .names import (DONE, FLAGS, INVALID_PARAMETER, KINDS, MESSAGES, OPCODES, PRIMITIVES, REFUSAL_FLAG,
+                    STATE_NAMES, STATES, STATUS, count, field_at, flags_set, listed, longest_words, number,
+                    refusals)
 
 
 # The record
@@ -211,7 +211,7 @@ def ground_too_long(event):
 
 def ground_no_command(event):
     state = event.before.states[event.named]
-    used = f"; {ticket_words(event)}" if event.tag == COMPLETE else ""
+    used = "" if event.ticket is None else f"; {ticket_words(event)}"
     if state == "Process answered":
         return f"slot {event.named} is in Process, and its response is there{used}"
     return f"slot {event.named} is not in Process: it is {in_state(state)}{used}"
@@ -301,7 +301,7 @@ def cpsr_words(primitive, cpsr):
     if primitive.opcode == GET_STATE:
         return f"{cpsr:04x}h: {state_word_words(cpsr)}"
     if primitive.opcode == ABORT:
-        return f"{cpsr}: {ABORTED.get(cpsr, 'an unknown value')}"
+        return f"{cpsr}: {primitive.aborted.get(cpsr, 'an unknown value')}"
     if primitive.opcode == REPLAY:
         return f"{cpsr}: {replay_words(primitive, cpsr)}"
     return f"{cpsr}: {flags_set(cpsr)}"

@@ -4,6 +4,7 @@
     forms               words and their options
     messages            commands and control primitives: the options of their lines, and their packets
     setups              the setup of either end: its line, what it leaves, and both in words
+    declaring           a taken command that can be stopped: its declaration, and what an Abort of it says
     program             the calls program as a child
     requester           what the requester's records say, what a look at it shows, and its calls as events
     requester_words     the words of the requester, and the one that hands packets from end to end

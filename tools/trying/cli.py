@@ -6,6 +6,7 @@ import shutil
 import signal
 import sys
 
+from .declaring import MARKS
 from .messages import PRIMITIVES
 from .program import Program, Trouble, unsignalled
 from .requester_words import RECEIVE
@@ -108,8 +109,9 @@ def known_behind(words):
 
 # Words that can follow beside options
 MORE = {"control": tuple(PRIMITIVES), "complete": ("taken", *PATTERNS), "packet": tuple(PATTERNS),
-        "expect": (*EXPECTATIONS, *STATES, *RECEIVE), "requester primitive": tuple(PRIMITIVES),
-        "requester packet": tuple(PATTERNS), "deliver": tuple(RECEIVE)}
+        "declare": ("taken", *MARKS), "expect": (*EXPECTATIONS, *STATES, *RECEIVE),
+        "requester primitive": tuple(PRIMITIVES), "requester packet": tuple(PATTERNS),
+        "deliver": tuple(RECEIVE)}
 
 
 # Doing them

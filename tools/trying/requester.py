@@ -6,6 +6,7 @@ from second import calls
 from second.endpoint import STORE
 from second.wire import CONTROL, packet_fields
 
+from .declaring import ABORTED
 from .program import Trouble
 from .setups import ANSWERS as SETUP_ANSWERS
 from .setups import left_by
@@ -194,7 +195,7 @@ class Requester:
             built = read_primitive(event.body)
             who = built.destination, built.tag
             self.asked[who] = Primitive(event.number, built.opcode, built.slot, who, built.primitive_tag,
-                                        built.cpsp, body=b"")
+                                        built.cpsp, body=b"", aborted=ABORTED)
 
     def receive(self, event):
         if len(event.body) >= HEADER:

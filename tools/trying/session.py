@@ -11,7 +11,7 @@ from .requester_telling import requester_lines, requester_look_lines, state_word
 from .setups import ANSWERS as SETUP_ANSWERS
 from .telling import About, event_lines, look_lines, read_lines, response_lines, setup_lines, stores_lines
 from .values import LineError
-from .watching import KINDS, Call, Joiner, Watcher
+from .watching import Call, Joiner, Watcher, is_event
 from .words import STATES, read_line
 
 INDENT = " " * 8
@@ -103,7 +103,7 @@ class Session:
         if self.line == "bad":
             self.answers.append(None)
             raise Trouble(f"record {self.number}: the program printed bad and ended: the record is none that it has")
-        if call.tag in KINDS:
+        if is_event(*call):
             return self.event(call, before)
         return self.asked(call, follower) if follower else self.other(call)
 
@@ -141,7 +141,7 @@ class Session:
         return requester_lines(event)
 
     def other(self, call):
-        """A call that no log has."""
+        """A call that no log has, and that is no declaration."""
         words = self.line.split(" ")
         self.answers.append(int(words[0]) if words[0].isdigit() else None)
         if call.tag != calls.LOOK:

@@ -18,12 +18,19 @@ def read_idle(*last):
     return Idle(Held((requester, tag), length))
 
 
+# A command in Process, by the last word of its phase: whether it was taken, and whether it can be stopped
+TAKINGS = {"untaken": (False, False), "taken": (True, False), "can": (True, True)}
+
+
+def read_process(source, tag, nmimt, length, taking):
+    return Process((source, tag), MessageHeader(0, nmimt, 0, 0, 0), length, *TAKINGS[taking])
+
+
 # What a slot holds, by the first word of its phase
 PHASES = {
     "idle": read_idle,
     "receive": lambda source, tag, sequence, length: Receive((source, tag), None, sequence, length),
-    "process": lambda source, tag, nmimt, length, taking: Process((source, tag), MessageHeader(0, nmimt, 0, 0, 0), length,
-                                                                  taking != "untaken"),
+    "process": read_process,
     "answered": lambda requester, tag, length: Answered((requester, tag), None, length),
     "transmit": lambda requester, tag, length, sent: Transmit((requester, tag), length, sent),
 }

@@ -8,6 +8,7 @@ from explain.wording import (answer_words, effect_words, message_words, packet_w
 from second.log import COMPLETE, PACKET, POLL
 from second.wire import CONTROL, is_sealed, longest_packet, message_header
 
+from .declaring import DECLARE, declare_called, declare_done, declare_effects
 from .setups import left_by, setup_called, setup_done, setup_refused
 from .watching import WRONG_STORES
 
@@ -28,16 +29,20 @@ def hex_words(data):
     return data[:SHOWN].hex(" ") + (f" and {count(len(data) - SHOWN, 'more byte')}" if len(data) > SHOWN else "")
 
 
-# Calls that a log has too
+# Calls that a log has too, and declarations
 
 def event_lines(event, about, before, after):
     """An event in lines; `before` and `after` are the states."""
     odd = [ODD] if event.differs else []
+    declared = declare_effects(event) if event.tag == DECLARE else ()
+    effects = *effect_words(event), *declared, *store_words(event, before, after)
     return ["; ".join(called_words(event, about)), f"-> {answer(event, about)}", *odd,
-            *(f"   {words}" for words in (*effect_words(event), *store_words(event, before, after)))]
+            *(f"   {words}" for words in effects)]
 
 
 def called_words(event, about):
+    if event.tag == DECLARE:
+        return [declare_called(event)]
     if event.tag == COMPLETE:
         body = event.body[1:]
         return [f"complete of slot {event.named} with ticket {number(event.ticket)} and a body of {count(len(body), 'byte')}"
@@ -55,6 +60,8 @@ def answer(event, about):
     if event.answer == SHORT_BUFFER:
         longest = longest_packet(event.before.unit)
         return f"{SHORT_BUFFER}, the buffer has {count(about.buffer, 'byte')}, fewer than {longest}"
+    if (event.tag, event.answer) == (DECLARE, 0):
+        return f"0, {declare_done(event)}"
     if event.sent and event.head and event.head.nmimt == CONTROL and event.primitive is None:
         return f"1, sends a {packet_words(event.sent, event.fields)[0]}; a control reply"
     if event.sent and event.differs:

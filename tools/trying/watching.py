@@ -3,22 +3,30 @@ from collections import namedtuple
 
 from explain.following import HEADER, Event, Follower, sends_again
 from second import calls, log
-from second.endpoint import Answered, Process, Receive, Transmit
-from second.wire import CONTROL, REPLAY, packet_fields
+from second.endpoint import ABORT_CPSR, Answered, Process, Receive, Transmit
+from second.wire import ABORT, CONTROL, REPLAY, packet_fields, success
 
+from .declaring import ABORTED, DECLARE, Declaration, aborted_in, is_declaration
 from .program import Trouble
 from .state import read_state
 
 # A call: the record's tag and body
 Call = namedtuple("Call", "tag body")
 
-# The kind of a log's record for each call that a log has too
+# The kind of each call that is an event: that of a log's record, and for declaring, which no log has, its own
 KINDS = {calls.RECEIVE: log.PACKET, calls.POLL: log.POLL, calls.TIMEOUT: log.TIMEOUT, calls.TAKE: log.TAKE,
-         calls.COMPLETE: log.COMPLETE, calls.RESET: log.RESET}
+         calls.COMPLETE: log.COMPLETE, calls.RESET: log.RESET, calls.DECLARE: DECLARE}
+ON_SLOT = log.TIMEOUT, log.TAKE, log.COMPLETE, DECLARE
+WITH_TICKET = log.COMPLETE, DECLARE
 WRONG_STORES = 40
 
 # What an event is made of: its number, the kind of a log's record, and what such a record would have as body
 Record = namedtuple("Record", "number tag body")
+
+
+def is_event(tag, body):
+    """Whether a record is told as an event. A wrong program can answer a declaration that is none."""
+    return tag in KINDS and (tag != calls.DECLARE or is_declaration(body))
 
 
 def as_in_a_log(tag, line):
@@ -32,8 +40,8 @@ def as_in_a_log(tag, line):
 
 
 def slot_and_rest(tag, body):
-    """The slot that a call names, and what stands behind it."""
-    return int.from_bytes(body[:4], "little"), body[8:] if tag == calls.COMPLETE else b""
+    """The slot that a call names, and what stands behind it and a ticket."""
+    return int.from_bytes(body[:4], "little"), body[8:] if tag in (calls.COMPLETE, calls.DECLARE) else b""
 
 
 class Watcher(Follower):
@@ -60,19 +68,20 @@ class Watcher(Follower):
         self.view = self.look()
 
     def event(self, number, call, line, look):
-        """The event of a call that a log has too. Without `expected` if answer and slots do not go together."""
+        """The event of a call. Without `expected` if answer and slots do not go together."""
         kind = KINDS[call.tag]
         slot, rest = slot_and_rest(call.tag, call.body)
         body = call.body if kind == log.PACKET else bytes((slot & 0xFF,)) + rest
-        event = Event(Record(number, kind, body), as_in_a_log(call.tag, line), self.view, self.replays)
+        made = Declaration if kind == DECLARE else Event
+        event = made(Record(number, kind, body), as_in_a_log(call.tag, line), self.view, self.replays)
         event.expected, event.eid, event.not_taken = event.line, self.endpoint.eid, "which no take of that slot gave"
         self.look_at(look)
         event.after = self.view
-        if kind in (log.TIMEOUT, log.TAKE, log.COMPLETE):
+        if kind in ON_SLOT:
             self.on_slot(event, slot)
         if kind == log.TAKE and event.answer == 0:
             self.took(event, event.after.counts[slot] if slot < 2 else 0)
-        if kind == log.COMPLETE:
+        if kind in WITH_TICKET:
             event.ticket = int.from_bytes(call.body[4:8], "little")
             event.taken_at = self.taken_at.get((slot, event.ticket))
         if kind in WATCHED:
@@ -82,7 +91,7 @@ class Watcher(Follower):
         if not fits(event):
             event.expected = None
             if kind == log.PACKET and event.primitive:
-                self.waiting = event.primitive._replace(after=None)
+                self.waiting = event.primitive._replace(after=None, aborted=ABORTED)
         return event
 
     def on_slot(self, event, slot):
@@ -105,6 +114,7 @@ class Watcher(Follower):
     def control(self, event):
         if event.after.reply is not None:
             super().control(event)
+            event.primitive = self.waiting = event.primitive._replace(aborted=aborted_in(found_state(event)))
 
     def so_far(self, event):
         """The command's bytes up to and with this packet."""
@@ -129,7 +139,9 @@ def fits(event):
     if kind in HELD:
         return event.named in (0, 1) and isinstance(event.after.jobs[event.named], HELD[kind])
     if kind == (log.PACKET, 2):
-        return event.primitive is not None and replay_fits(event)
+        return event.primitive is not None and replay_fits(event) and abort_fits(event)
+    if kind == (DECLARE, 0):
+        return event.named in (0, 1) and declaration_fits(event)
     if kind == (log.POLL, 1) and not (event.head and event.head.nmimt == CONTROL):
         return event.named is not None and isinstance(event.before.jobs[event.named], Transmit)
     return True
@@ -143,6 +155,30 @@ def replay_fits(event):
     if sends_again(primitive):
         return event.before.held[slot] is not None and isinstance(event.after.jobs[slot], Transmit)
     return event.before.held[slot] is None
+
+
+def found_state(event):
+    """The state in which a control primitive found its slot: its own packet can end an assembly there."""
+    slot = event.primitive.slot
+    return "Idle" if event.ended == slot else event.before.states[slot]
+
+
+def abort_fits(event):
+    """Whether an Abort's reply goes with what it found in its slot."""
+    primitive = event.primitive
+    if primitive.opcode != ABORT or primitive.body[0]:
+        return True
+    return primitive.body == success(primitive.tag, ABORT_CPSR[found_state(event)])
+
+
+def declaration_fits(event):
+    """Whether a declaration is of a taken command, and changed no more than what it declares."""
+    before, slot = event.before, event.named
+    jobs = list(before.jobs)
+    if not isinstance(jobs[slot], Process) or not jobs[slot].taken:
+        return False
+    jobs[slot] = jobs[slot]._replace(stoppable=event.can)
+    return event.after == before._replace(jobs=tuple(jobs), states=event.after.states)
 
 
 WATCHED = {log.PACKET: "packet", log.POLL: "poll", log.RESET: "reset"}

@@ -7,6 +7,7 @@ from second import calls
 from second.wire import longest_packet
 
 from . import messages
+from .declaring import MARKS
 from .forms import Word, option_usage
 from .requester_words import DELIVER, LENGTH, NUMBER, REQUESTER, read_end
 from .setups import SETUP_OPTIONS, read_setup
@@ -14,7 +15,7 @@ from .values import LineError, Words, number_of
 
 # The states of a slot as `expect` names them, and as the second program does
 STATES = {"idle": "Idle", "receive": "Receive", "untaken": "Process untaken", "taken": "Process taken",
-          "answered": "Process answered", "transmit": "Transmit"}
+          "stoppable": "Process stoppable", "answered": "Process answered", "transmit": "Transmit"}
 
 
 def on_slot(record):
@@ -51,20 +52,28 @@ def read_record(words):
 
 
 def read_complete(words):
-    slot = words.number("a slot", 0, NUMBER)
-    ticket = read_ticket(words)
+    slot, ticket = read_slot_and_ticket(words)
     body = words.bytes()
-    return lambda session: session.call(call_records.complete(session.ticket(slot) if ticket is None else ticket, body, slot))
+    return lambda session: session.call(call_records.complete(ticket(session), body, slot))
 
 
-def read_ticket(words):
-    """A ticket; None for the last that was taken from the slot."""
-    expected = f"a ticket, 0 to {NUMBER:,}, or taken"
+def read_declare(words):
+    slot, ticket = read_slot_and_ticket(words)
+    mark = words.next("can or cannot")
+    if mark not in MARKS:
+        raise LineError(f"expected can or cannot, and there is {mark!r}")
+    words.end()
+    return lambda session: session.call(call_records.declare(ticket(session), MARKS[mark], slot))
+
+
+def read_slot_and_ticket(words):
+    """A slot, and a ticket as a function of the session: the one last taken there has to be asked for."""
+    slot, expected = words.number("a slot", 0, NUMBER), f"a ticket, 0 to {NUMBER:,}, or taken"
     word = words.next(expected)
     ticket = number_of(word)
     if word != "taken" and (ticket is None or ticket > NUMBER):
         raise LineError(f"expected {expected}, and there is {word!r}")
-    return ticket
+    return slot, lambda session: session.ticket(slot) if word == "taken" else ticket
 
 
 def read_polling(act):
@@ -165,6 +174,10 @@ WORDS = {
     "complete": Word("complete SLOT TICKET BYTES",
                      "the response's body, from its status on; in place of a ticket, taken: the one last taken there (else 0)",
                      read_complete),
+    "declare": Word("declare SLOT TICKET can|cannot",
+                    "declares that the taken command can still be stopped with no effect, or no longer can:\n"
+                    "    an Abort reports CPSR 1 or 2; a take starts at cannot; the ticket is as in complete",
+                    read_declare),
     "poll": Word("poll [LENGTH]",
                  "asks for one packet with a buffer of this length (that of a full packet if not given)",
                  read_polling(lambda session, record: session.call(record))),
@@ -180,7 +193,8 @@ WORDS = {
     "expect": Word("expect NUMBER [NUMBER ..] | slot N STATE | body BYTES | line LINE | awaits WHOM |"
                    " gathered N | unit END N",
                    "fails if the last answer was another (several numbers: the answers of the last line that called, in order);\n"
-                   f"    if the slot is in another state than STATE ({', '.join(STATES)});\n"
+                   f"    if the slot is in another state than STATE ({', '.join(STATES)};\n"
+                   "    taken is for a command that can't be stopped, stoppable for a taken one that can);\n"
                    "    if the last whole response or control reply has another body;\n"
                    "    if the program's last line was another;\n"
                    "    if the requester awaits another than WHOM (SOURCE TAG, or nothing);\n"

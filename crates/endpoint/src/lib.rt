@@ -1,4 +1,4 @@
-// The endpoint's eight calls. Each is proved equal to its definition in `machine`, and its only premise is the invariant of the state, which
+// The endpoint's nine calls. Each is proved equal to its definition in `machine`, and its only premise is the invariant of the state, which
 // setup gives and every call keeps. A call gets the state by value and hands back the next one; the stores and the buffer are lent.
 pub use finish::complete;
 pub use finish::timeout;
@@ -6,5 +6,6 @@ pub use poll::poll;
 pub use receive::receive;
 pub use start::reset;
 pub use start::setup;
+pub use take::declare;
 pub use take::request;
 pub use take::take;

@@ -4,7 +4,7 @@ use Prim.Native.Nat.{ℕ}
 use mathlib.Core.Path.{_≡_, refl}
 use mathlib.Core.Bool.{Bool, true, false}
 use mathlib.Core.List.{List, [], _∷_}
-use lib.ListN.{length, replicate}
+use lib.ListN.{length, getD, replicate}
 use Rattle.crc32c.specs.Crc32c.{crc32c, reflect, register, steps, step as stepCrc}
 use Rattle.mctp.specs.Header.{readHeader}
 use Rattle.mctp.specs.Cut.{packet as cutPacket}
@@ -13,7 +13,7 @@ use Rattle.nvme_mi.specs.Message.{commandFault, controlFault}
 use Rattle.nvme_mi.specs.Check.{checkRight, withCheck}
 use Rattle.nvme_mi.specs.Response.{response}
 use Rattle.machine.specs.State.{ticket}
-use Rattle.machine.specs.Calls.{Call, receive, take!, read, complete, step, begin}
+use Rattle.machine.specs.Calls.{Call, receive, take!, read, complete, declare, step, begin}
 use Rattle.machine.specs.History.{History, phaseAt, pausedAt, isPacketOf, next, run, start, cuts}
 use Rattle.machine.specs.Demands.{fate, isProcess, isAnswered}
 use Rattle.examples.specs.Examples.{mi-20, nmimt-3, pause, abort, taking, completing, polling, answer}
@@ -42,11 +42,30 @@ paused = run (mi-20 ∷ taking ∷ pause ∷ []) new
 abbrev replaced : History
 replaced = run (mi-20 ∷ taking ∷ abort ∷ mi-20 ∷ []) new
 
+-- whether the command under slot 0's first ticket can still be stopped
+abbrev declaring : Bool → Call
+declaring can = declare 0 (ticket 1) can
+
+-- it was declared that it can; and that it no longer can
+abbrev stoppable : History
+stoppable = run (mi-20 ∷ taking ∷ declaring true ∷ []) new
+
+abbrev begun : History
+begun = run (mi-20 ∷ taking ∷ declaring true ∷ declaring false ∷ []) new
+
+-- one that can was aborted, and the next command is taken
+abbrev taken-next : History
+taken-next = run (mi-20 ∷ taking ∷ declaring true ∷ abort ∷ mi-20 ∷ taking ∷ []) new
+
 -- ---- what is looked at
 
 -- a call's answer in a history: its number; behind 0 a ticket, behind 1 a packet's length
 abbrev says : Call → History → List ℕ
 says c h = answer (step c (h .world) .event)
+
+-- what an Abort of slot 0 reports: the low byte of CPSR in the reply that waits
+abbrev told : History → List ℕ
+told h = getD (next abort h .world .endpoint .reply) 6 0 ∷ []
 
 abbrev yes : Bool → List ℕ
 yes true = 1 ∷ []
@@ -73,6 +92,19 @@ shown =
     -- ticket-rule: ticket 1 after a second command came in
     ∷ says (completing 4) replaced
     ∷ (replaced .trace 0 .entries ∷ [])
+    ∷ says (declaring true) replaced
+    -- ticket-own, declare-marks, mark-own: a declaration of the command that was taken is accepted, and the history has it
+    ∷ says (declaring true) worked-on
+    ∷ yes (stoppable .trace 0 .stoppable)
+    -- abort-tells: of a command that waits, that is taken, that can still be stopped, that no longer can; and of the next one after that
+    ∷ told waiting
+    ∷ told worked-on
+    ∷ told stoppable
+    ∷ told begun
+    ∷ told taken-next
+    -- cut-stays: its ticket after the Abort, before another command comes in
+    ∷ yes (cuts 0 abort (stoppable .world))
+    ∷ says (declaring false) (next abort stoppable)
     -- answer-arrives, under the flag: the completion is accepted and waits; a poll is not counted; after Resume the response goes out whole,
     -- with one poll counted
     ∷ says (completing 4) paused
@@ -104,6 +136,16 @@ pub premises : shown
     ∷ (1 ∷ [])
     ∷ (32 ∷ [])
     ∷ (2 ∷ [])
+    ∷ (32 ∷ [])
+    ∷ (0 ∷ [])
+    ∷ (1 ∷ [])
+    ∷ (1 ∷ [])
+    ∷ (2 ∷ [])
+    ∷ (1 ∷ [])
+    ∷ (2 ∷ [])
+    ∷ (2 ∷ [])
+    ∷ (1 ∷ [])
+    ∷ (31 ∷ [])
     ∷ (0 ∷ [])
     ∷ (1 ∷ [])
     ∷ (1 ∷ 1 ∷ 12 ∷ [])

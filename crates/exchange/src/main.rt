@@ -1,7 +1,7 @@
-// Both ends in use, with the endpoint's eight calls and the requester's five: a controller, EID 9, and a drive's loop around the endpoint, EID 8, as
-// a board would have it, behind a bridge that carries 250 bytes. A command goes over in two packets, is taken, read and completed, and its response comes back in two. A control primitive
-// asks for a slot's state. Then a command whose sender falls silent is given up by a timeout, and a reset ends it. It prints each answer, and the
-// lengths of messages and packets.
+// Both ends in use, with the endpoint's nine calls and the requester's five: a controller, EID 9, and a drive's loop around the endpoint, EID 8, as
+// a board would have it, behind a bridge that carries 250 bytes. A command goes over in two packets, is taken, read and completed, with a declaration
+// at each step that an Abort would have to know of, and its response comes back in two. A control primitive asks for a slot's state. Then a command
+// whose sender falls silent is given up by a timeout, and a reset ends it. It prints each answer, and the lengths of messages and packets.
 ghost use Prim.Native.Nat.{_<_, _≤_};
 ghost use Rattle.machine.specs.Valid.{Valid};
 ghost use Rattle.controller.specs.State.{Valid as ValidRequester};
@@ -9,9 +9,12 @@ use controller::Primitive;
 use controller::ReceiveAnswer;
 use controller::Requester;
 use controller::SendAnswer;
+use machine::Done;
 use machine::Endpoint;
 use machine::PollAnswer;
 use machine::TakeAnswer;
+use machine::Ticket;
+use machine::answers;
 use machine::sizes::HEADER_SIZE;
 use machine::sizes::STORE_SIZE;
 
@@ -156,7 +159,18 @@ fn primitive_sent(
 
 // ---- The endpoint answers, and the controller gathers.
 
-// Takes the slot's command, looks at the request, and completes it with a status byte and 260 zeros.
+// Tells what an Abort of the taken command would report from here on: that it had no effect yet, or that it may have had one.
+fn declared(endpoint: Endpoint, slot: usize, ticket: Ticket, can: bool) -> Done
+    requires { ⌜ Valid endpoint ⌝ }
+    ensures { λ r. ⌜ Valid (r .endpoint) ⌝ }
+{
+    let done = endpoint::declare(endpoint, slot, ticket, can);
+    say(b"declare ", wide(done.answer));
+    done
+}
+
+// Takes the slot's command, looks at the request, and completes it with a status byte and 260 zeros. Until the work begins it can still be stopped;
+// and it does not begin if an Abort came in between.
 fn answered(endpoint: Endpoint, store0: &mut [u8], store1: &mut [u8], slot: usize) -> Endpoint
     requires { ⌜ Valid endpoint ⌝ }
     ensures { λ r. ⌜ Valid r ⌝ }
@@ -166,10 +180,15 @@ fn answered(endpoint: Endpoint, store0: &mut [u8], store1: &mut [u8], slot: usiz
     let TakeAnswer::Given(ticket) = answer else {
         return taken.endpoint;
     };
-    let request = endpoint::request(taken.endpoint, store0, store1, slot);
+    let waits = declared(taken.endpoint, slot, ticket, true);
+    let request = endpoint::request(waits.endpoint, store0, store1, slot);
     say(b"request of ", request.len() as u64);
+    let begins = declared(waits.endpoint, slot, ticket, false);
+    if begins.answer != answers::DONE {
+        return begins.endpoint;
+    }
     let body = [0u8; 261];
-    let done = endpoint::complete(taken.endpoint, store0, store1, slot, ticket, &body);
+    let done = endpoint::complete(begins.endpoint, store0, store1, slot, ticket, &body);
     say(b"complete ", wide(done.answer));
     done.endpoint
 }

@@ -9,20 +9,21 @@ use native.Mathlib.Omega.{arith}
 use lib.Dec.{eqb}
 use lib.ListN.{length}
 use Rattle.lent.specs.Choice.{if_then_else_}
-use Rattle.lent.proofs.Choice.{if-ind, false-true}
+use Rattle.lent.proofs.Choice.{false-true}
 use Rattle.mctp.proofs.Laws.{packets-bounds}
 use Rattle.nvme_mi.specs.Check.{withCheck}
 use Rattle.machine.specs.State.{World, outgoing, slotAt, storeAt}
 use Rattle.machine.specs.Valid.{PhaseFacts}
 use Rattle.machine.specs.Calls.{Call, receive, complete, poll, isPlain, Event, number, given, part-read, handed-out, Stepped, step}
-use Rattle.machine.specs.History.{Trace, History, phaseAt, pausedAt, isTransmit, isPacketOf, isFor, requestWith, responseFor, fixedAtEntry, commanded, transmitted, counts, next, run, start, cuts, packetsLeft, lastPacketOut, unitOf, hasRoom}
+use Rattle.machine.specs.History.{Trace, History, phaseAt, pausedAt, isPacketOf, isFor, requestWith, responseFor, fixedAtEntry, commanded, counts, next, run, start, cuts, packetsLeft, lastPacketOut, unitOf, hasRoom}
 use Rattle.machine.specs.Demands.{cut, delivered, fate, Within, pollsFor, mostPolls, isProcess, AnswerArrives, ErrorArrives}
 use Rattle.machine.specs.Types.{Ticket, Response, Outgoing, Phase, Idle, Receive, Process, Answered, Transmit}
 use Rattle.machine.proofs.Slots.{isEarly, facts-at}
 use Rattle.machine.proofs.Fits.{Asked, Steady, same, newly, released, handed-over, worked, fell, settled-late, There, waits, goes, answered-not}
 use Rattle.machine.proofs.Polling.{PollCase, still, replies, sends, poll-case}
 use Rattle.machine.proofs.Histories.{Good, by-kind, plain-carries, next-unit, good-next, good-every}
-use Rattle.machine.proofs.Tickets.{accepted, completes}
+use Rattle.machine.proofs.Traces.{sent-cases}
+use Rattle.machine.proofs.Tickets.{accepted-process, completion}
 use Rattle.machine.proofs.Responses.{came-in-so, response-kept}
 use Rattle.machine.proofs.Delivery.{mute, from-here, within-more}
 
@@ -74,7 +75,7 @@ on-steady : {C : Type 0} {p q : Phase} (r : Response) → Steady C p q → p ≡
 on-steady r (same e) a n = waits r (e ∙ a)
 on-steady r (newly x y) a n = false-true (rw a at x)
 on-steady r (released x b d) a n = goes (outgoing x 0) d
-on-steady r (handed-over x b d) a n = answered-not (sym a ∙ b)
+on-steady r (handed-over x can b d) a n = answered-not (sym a ∙ b)
 on-steady r (worked x b y d e) a n = answered-not (sym a ∙ d)
 on-steady r (fell c e) a n = absurd (n c)
 
@@ -171,7 +172,7 @@ late-steady {p = p} (same e) a n = rw e (process-late p a)
     process-late (Transmit r) h = refl
 late-steady {p = p} (newly x y) a n = process-early p x a
 late-steady (released x b d) a n = rw d refl
-late-steady (handed-over x b d) a n = rw d refl
+late-steady (handed-over x can b d) a n = rw d refl
 late-steady (worked x b y d e) a n = ap isEarly e ∙ settled-late b y
 late-steady (fell c e) a n = absurd (n c)
 
@@ -183,7 +184,7 @@ complete-late : (h : History) → Good h → (i : ℕ) → i ≤ 1 → (t : Tick
     → isEarly (phaseAt (next (complete i t body) h .world) i) ≡ false
 unfolding next
 complete-late h g i is t body e =
-    late-steady (plain-carries (complete i t body) h g refl .carried i is .steady) (accepted (h .world) (g .sound) i is t body e .0) (λ q. false-true q)
+    late-steady (plain-carries (complete i t body) h g refl .carried i is .steady) (accepted-process (h .world) i t body e) (λ q. false-true q)
 
 complete-uncounted : (h : History) (i : ℕ) (t : Ticket) (body : List ℕ) → next (complete i t body) h .counted ≡ h .counted
 unfolding next
@@ -194,7 +195,7 @@ answer-arrives eid unit store0 store1 a b xs ys i is t body e =
     let h = run xs (start eid unit store0 store1) in
     let g = good-every eid unit store0 store1 a b xs in
     let g₁ = good-next (complete i t body) h g in
-    let fixed = completes h i t body e in
+    let fixed = completion h i t body e in
     goes-out i (h .counted + mostPolls (unitOf (h .world))) (responseFor i (h .trace i .request) body) is ys (next (complete i t body) h) g₁
     (there-by i is (next (complete i t body) h) g₁ (complete-late h g i is t body e) (λ n. filled i (h .trace i .request) body (sym fixed ∙ n)))
     fixed (omega (arith, complete-uncounted h i t body, ap mostPolls (next-unit (complete i t body) h g)))
@@ -210,16 +211,14 @@ pub entry-trace : (h : History) (i : ℕ) (p : List ℕ) → step (receive p) (h
     → (next (receive p) h .trace i .response ≡ fixedAtEntry i (requestWith p (h .trace i))) × (next (receive p) h .trace i .entries ≡ h .trace i .entries + 1)
 unfolding next
 entry-trace h i p e k =
-    sent (phaseAt (h .world) i) (phaseAt (step (receive p) (h .world) .world) i) (step (receive p) (h .world) .event) _ (go (step (receive p) (h .world) .event) e)
+    let k = go (step (receive p) (h .world) .event) e in
+    sent-cases After (phaseAt (h .world) i) (phaseAt (step (receive p) (h .world) .world) i) (step (receive p) (h .world) .event) _ k (λ n s. k)
   where
     After : Trace → Type 0
     After l = (l .response ≡ fixedAtEntry i (requestWith p (h .trace i))) × (l .entries ≡ h .trace i .entries + 1)
 
     go : (v : Event) → v ≡ number 1 → After (commanded i (receive p) (h .world) v (h .trace i))
     go v q = rw (q, k) (refl, refl)
-
-    sent : (x y : Phase) (v : Event) (l : Trace) → After l → After (transmitted x y v l)
-    sent x y v l f = if-ind After (not (isTransmit x) && isTransmit y) (λ _. f) (λ _. if-ind After (isPacketOf x y v) (λ _. f) (λ _. f))
 
 pub error-arrives : ErrorArrives
 error-arrives eid unit store0 store1 a b xs ys i is p e k some =

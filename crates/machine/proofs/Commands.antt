@@ -9,7 +9,7 @@ use lib.Dec.{eqb, ltb}
 use lib.ListN.{length, take}
 use borrow.Author.Tests.{eqb-true}
 use Rattle.lent.specs.Choice.{if_then_else_}
-use Rattle.lent.proofs.Choice.{if-ind, if-second, false-true, differ}
+use Rattle.lent.proofs.Choice.{if-second, false-true, differ}
 use Rattle.mctp.specs.Header.{payloadOf}
 use Rattle.nvme_mi.specs.Check.{checkRight}
 use Rattle.nvme_mi.specs.Message.{messageHeader, commandFault, smallest}
@@ -17,26 +17,26 @@ use Rattle.nvme_mi.specs.Response.{faultBody}
 use Rattle.nvme_mi.specs.declared.Fault.{Fault}
 use Rattle.nvme_mi.specs.declared.Fault.the-variants.{NoFault, Parameter, Failure}
 use Rattle.machine.specs.State.{World, Outcome, slotAt, storeAt, withSlot, ticket}
-use Rattle.machine.specs.Wire.{wrongStores}
 use Rattle.machine.specs.Process.{respondedAtOnce, entered}
 use Rattle.machine.specs.Receive.{refused, refusedBusy, received}
-use Rattle.machine.specs.Finish.{isSlot, takenRequest, partOf, part, isBody, isPresent, completedRow, completedIn, completed}
+use Rattle.machine.specs.Finish.{isSlot, takenRequest, partOf, part}
 use Rattle.machine.specs.Poll.{afterPacket}
 use Rattle.machine.specs.Valid.{Sound}
-use Rattle.machine.specs.Calls.{Call, read, complete, poll, isPlain, number, part-read, Stepped, step}
+use Rattle.machine.specs.Calls.{Call, read, complete, poll, isPlain, part-read, Stepped, step}
 use Rattle.machine.specs.History.{Trace, History, phaseAt, requestWith, sourceOf, messageTagOf, kindOf, fixedAtEntry, traceAfter, next, run, start, cuts}
-use Rattle.machine.specs.Demands.{isProcess}
+use Rattle.machine.specs.Demands.{isProcess, completes}
 use Rattle.machine.specs.Commands.{RightCheck, Accepted, AcceptedRight, SameCommand, Stays, worked-on, answered, cut-off, CommandStays, TakenFirst, FixedOnce}
-use Rattle.machine.specs.Types.{Ticket, Taking, Untaken, Taken, Request, Outgoing, Phase, Idle, Receive, Process, Answered, Transmit, Slot}
+use Rattle.machine.specs.Types.{Taking, Untaken, Taken, Request, Outgoing, Phase, Idle, Receive, Process, Answered, Transmit, Slot}
 use Rattle.machine.proofs.Slots.{isEarly, facts-at}
+use Rattle.machine.proofs.Cases.{same-number, slot-most}
 use Rattle.machine.proofs.Receiving.{Joining, filled, grown, whole, Ground, in-table, of-control, of-no-slot, Break, in-sequence, in-size, in-total, Walk, walked, right-stores}
-use Rattle.machine.proofs.Keeps.{slot-most, Chosen, chosen-at, step-sound}
+use Rattle.machine.proofs.Keeps.{Chosen, chosen-at, step-sound}
 use Rattle.machine.proofs.Places.{Which, this, that, which, slot-that}
 use Rattle.machine.proofs.Fits.{takesOf, Asked, Fit, Entry, entered as came, stayed, Steady, same, newly, released, handed-over, worked, fell, There, settled-there, answered-not, some-response, atEntry, fixed-is}
 use Rattle.machine.proofs.Received.{Mid, for-this, in-process, whole-is, size-is, start-mid, ended-mid, w₂, command}
 use Rattle.machine.proofs.Polling.{PollCase, still, replies, sends, poll-case}
 use Rattle.machine.proofs.Histories.{Good, by-kind, plain-carries, kept-by, good-every, next-unit, for-unit}
-use Rattle.machine.proofs.Tickets.{gave}
+use Rattle.machine.proofs.Tickets.{gave, accepted}
 use Rattle.machine.proofs.Responses.{Turned, kept, came-in, answered as answered-by, turned, came-in-so}
 use Rattle.machine.proofs.Arrives.{filled as response-filled}
 
@@ -116,9 +116,6 @@ module _ (w₀ : World) (p : List ℕ) (trace : ℕ → Trace) (s₀ : Sound w�
   received-right : Said (received w₀ p)
   received-right = walked w₀ p (Mid w₀ p trace s₀ fits) Said the-walk s₀ (λ _. start-mid w₀ p trace s₀ fits) (ended-mid w₀ p trace s₀ fits)
 
-pub same-number : {m n : ℕ} → number m ≡ number n → m ≡ n
-same-number e = cc
-
 pub accepted-right : AcceptedRight
 unfolding step
 accepted-right eid unit store0 store1 a b xs p e =
@@ -126,49 +123,18 @@ accepted-right eid unit store0 store1 a b xs p e =
     let g = good-every eid unit store0 store1 a b xs in
     received-right (h .world) p (h .trace) (g .sound) (g .fits) (same-number e)
 
--- ---- completing
-
--- a completion that is accepted: the slot's command, which was taken
-pub record Completes (w : World) (i : ℕ) : Type 0 where
-  pub slot-is : i ≤ 1
-  pub request : Request
-  pub in-process : phaseAt w i ≡ Process request
-  pub taken-is : request .taking ≡ Taken
-
-pub completes-so : (w : World) → Sound w → (i : ℕ) (t : Ticket) (body : List ℕ) → step (complete i t body) w .event ≡ number 0 → Completes w i
-unfolding step completed
-completes-so w s i t body e =
-    by (right-stores w s) (unfold completed in (same-number e))
-  where
-    Says : Outcome → Type 0
-    Says o = o .answer ≡ 0 → Completes w i
-
-    row : i ≤ 1 → (r : Request) (u : Taking) → phaseAt w i ≡ Process r → r .taking ≡ u → Says (completedRow w i r body u)
-    row is r Untaken p u = λ q. absurd (omega arith)
-    row is r Taken p u = if-ind Says (not (isBody body)) (λ _ q. absurd (omega arith)) (λ _ _. record { slot-is = is; request = r; in-process = p; taken-is = u })
-
-    into : i ≤ 1 → (p : Phase) → phaseAt w i ≡ p → Says (completedIn w i t body p)
-    into is (Idle held) p = λ q. absurd (omega arith)
-    into is (Receive a) p = λ q. absurd (omega arith)
-    into is (Process r) p = if-ind Says (not (isPresent t (slotAt (w .endpoint) i))) (λ _ q. absurd (omega arith)) (λ _. row is r (r .taking) p refl)
-    into is (Answered r) p = λ q. absurd (omega arith)
-    into is (Transmit r) p = λ q. absurd (omega arith)
-
-    by : wrongStores w ≡ false → Says (completed w i t body)
-    by right = unfold completed in (rw right (if-ind Says (not (isSlot i)) (λ _ q. absurd (omega arith)) (λ h. into (slot-most i h) (phaseAt w i) refl)))
-
 -- what the trace has of a command in Process
 asked-by : {unit : ℕ} (s : Slot) (store : List ℕ) (l : Trace) (r : Request) → Fit unit s store l → s .phase ≡ Process r → Asked r store l
 asked-by s store l r f e = rw e at (f .phase-fits)
 
-asked-at : (h : History) → Good h → (i : ℕ) → i ≤ 1 → (r : Request) → phaseAt (h .world) i ≡ Process r → Asked r (storeAt (h .world) i) (h .trace i)
+pub asked-at : (h : History) → Good h → (i : ℕ) → i ≤ 1 → (r : Request) → phaseAt (h .world) i ≡ Process r → Asked r (storeAt (h .world) i) (h .trace i)
 asked-at h g i is r p = asked-by (slotAt (h .world .endpoint) i) (storeAt (h .world) i) (h .trace i) r (g .fits i is) p
 
 pub fixed-once : FixedOnce
 fixed-once eid unit store0 store1 a b xs i t body e =
     let h = run xs (start eid unit store0 store1) in
     let g = good-every eid unit store0 store1 a b xs in
-    let k = completes-so (h .world) (g .sound) i t body e in
+    let k = accepted (h .world) i t (complete i t body) (completes body) e in
     asked-at h g i (k .slot-is) (k .request) (k .in-process) .unfixed
 
 -- ---- taking and reading
@@ -180,7 +146,7 @@ part-is h g i is = by (phaseAt (h .world) i) refl
     row : (r : Request) (u : Taking) → r .taking ≡ u → phaseAt (h .world) i ≡ Process r
         → partOf (storeAt (h .world) i) (Process r) ≡ (if eqb (h .trace i .takes) 1 then h .trace i .request else [])
     row r Untaken u p = let k = asked-at h g i is r p in rw (u, k .takes-are ∙ ap takesOf u) refl
-    row r Taken u p = let k = asked-at h g i is r p in rw (u, k .takes-are ∙ ap takesOf u) (k .held)
+    row r (Taken can) u p = let k = asked-at h g i is r p in rw (u, k .takes-are ∙ ap takesOf u) (k .held)
 
     by : (p : Phase) → phaseAt (h .world) i ≡ p → partOf (storeAt (h .world) i) p ≡ (if isProcess p && eqb (h .trace i .takes) 1 then h .trace i .request else [])
     by (Idle held) p = refl
@@ -205,7 +171,7 @@ taken-first eid unit store0 store1 a b xs i =
     let g = good-every eid unit store0 store1 a b xs in
     record {
       once = λ t e. let k = gave (h .world) (g .sound) i t e in asked-at h g i (k .slot-is) (k .request) (k .in-process) .takes-are ∙ ap takesOf (k .untaken);
-      first = λ t body e. let k = completes-so (h .world) (g .sound) i t body e in asked-at h g i (k .slot-is) (k .request) (k .in-process) .takes-are ∙ ap takesOf (k .taken-is);
+      first = λ t c presents e. let k = accepted (h .world) i t c presents e in asked-at h g i (k .slot-is) (k .request) (k .in-process) .takes-are ∙ ap takesOf (k .was-taken);
       reads = reads-so h g i;
     }
 
@@ -264,9 +230,9 @@ module _ (h : History) (g : Good h) (i : ℕ) (is : i ≤ 1) (r : Request) (p : 
   by-steady c n (same e) = same-phase c e
   by-steady c n (newly early _) = false-true (sym (ap isEarly p) ∙ early)
   by-steady c n (released x a b) = answered-not (sym a ∙ p)
-  by-steady c n (handed-over x a b) =
+  by-steady c n (handed-over x can a b) =
       let k : x ≡ r = same-request (sym a ∙ p) in
-      worked-on (worked-same c (takenRequest x) b (ap (λ (y : Request). y .source) k) (ap (λ (y : Request). y .tag) k) (ap (λ (y : Request). y .kind) k) (ap (λ (y : Request). y .length) k))
+      worked-on (worked-same c (takenRequest x can) b (ap (λ (y : Request). y .source) k) (ap (λ (y : Request). y .tag) k) (ap (λ (y : Request). y .kind) k) (ap (λ (y : Request). y .length) k))
     where
       same-request : {x y : Request} → Process x ≡ Process y → x ≡ y
       same-request e = cc

@@ -18,7 +18,7 @@ use Rattle.machine.specs.State.{World, slotAt, storeAt, withSlot, withEn
 use Rattle.machine.specs.Finish.{taken}
 use Rattle.machine.specs.Poll.{otherSlot, sendingOr, hasBegun, begunOr, chosen, isLast, advanced, afterPacket, controlPacket, commandPacket}
 use Rattle.machine.specs.Valid.{phased, isBegun, Fits, PhaseFacts, Valid}
-use Rattle.machine.specs.Calls.{Call, receive, take!, read, complete, poll, timeout, reset, isPlain, number, handed-out, Stepped, stepped, takeEvent, step}
+use Rattle.machine.specs.Calls.{Call, receive, take!, read, complete, declare, poll, timeout, reset, isPlain, number, handed-out, Stepped, stepped, takeEvent, step}
 use Rattle.machine.specs.History.{Trace, History, phaseAt, isTransmit, moved, isPacketOf, transmitted, traceAfter, counts, one?, next, run, start, cuts, packetsLeft, lastPacketOut, unitOf, overUnit}
 use Rattle.machine.specs.Demands.{Fate, cut, delivered, open!, fate, Within, mostPackets, pollsFor, isProcess, Demand3, mostPolls, AtMost, Quoted}
 use Rattle.machine.specs.Types.{Outgoing, Phase, Idle, Receive, Process, Answered, Transmit, Slot, Endpoint, TakeAnswer, Ready, Nothing, From}
@@ -93,7 +93,7 @@ stays : {C : Type 0} {p q : Phase} (r : Outgoing) → Steady C p q → p ≡ Tra
 stays r (same e) t n = e
 stays r (newly a b) t n = false-true (rw t at a)
 stays r (released x a b) t n = differ (cc (t, a))
-stays r (handed-over x a b) t n = differ (cc (t, a))
+stays r (handed-over x can a b) t n = differ (cc (t, a))
 stays r (worked x b y a d) t n = differ (cc (t, a))
 stays r (fell c e) t n = absurd (n c)
 
@@ -109,7 +109,7 @@ module _ (e e′ : Endpoint) (i : ℕ) (is : i ≤ 1) (v : Valid e) (unit-is : e
   ahead-down (same q) = rw (mine, unit-is, turn-is, q) (omega arith)
   ahead-down (newly a b) = calm-ahead b
   ahead-down (released r a b) = calm-ahead (rw b refl)
-  ahead-down (handed-over r a b) = calm-ahead (rw b refl)
+  ahead-down (handed-over r can a b) = calm-ahead (rw b refl)
   ahead-down (worked r b x a d) = calm-ahead (ap isBegun d ∙ settled-begun b x)
   ahead-down (fell c q) = calm-ahead (rw q refl)
 
@@ -423,6 +423,7 @@ mute (receive p) w e = record { no-packet = λ a b. unfold step in refl; not-cou
 mute (take! i) w e = record { no-packet = λ a b. unfold step in (take-mute a b (taken (w .endpoint) i .answer)); not-counted = refl }
 mute (read i) w e = record { no-packet = λ a b. unfold step in refl; not-counted = refl }
 mute (complete i t body) w e = record { no-packet = λ a b. unfold step in refl; not-counted = refl }
+mute (declare i t can) w e = record { no-packet = λ a b. unfold step in refl; not-counted = refl }
 mute (poll buffer) w e = false-true e
 mute (timeout i) w e = record { no-packet = λ a b. unfold step in refl; not-counted = refl }
 mute reset w e = false-true e

@@ -1,8 +1,8 @@
--- What taking, reading, completing, a timeout and a reset do to each slot, its store and its trace.
+-- What taking, reading, completing, declaring, a timeout and a reset do to each slot, its store and its trace.
 -- Assumes nothing.
 use Prim.Native.Nat.{ℕ, zero, suc, _+_, _≤_}
 use mathlib.Core.Path.{_≡_, refl, sym, ap, _∙_}
-use mathlib.Core.Bool.{true, false, not, _||_}
+use mathlib.Core.Bool.{Bool, true, false, not, _||_}
 use mathlib.Core.List.{List}
 use native.Mathlib.Omega.{arith}
 use lib.Dec.{eqb}
@@ -14,77 +14,69 @@ use Rattle.lent.proofs.Choice.{if-ind, or-left, false-true}
 use Rattle.lent.proofs.Stores.{take-put}
 use Rattle.nvme_mi.specs.Response.{response}
 use Rattle.nvme_mi.proofs.Laws.{length-response}
-use Rattle.machine.specs.State.{World, Outcome, outcome, slotAt, storeAt, withSlot, withStore, withEndpoint, withPhase, idled, settled}
+use Rattle.machine.specs.State.{World, Outcome, outcome, slotAt, storeAt, withSlot, withStore, withPhase, idled, settled}
 use Rattle.machine.specs.Wire.{response-place, wrongStores}
 use Rattle.machine.specs.Process.{responseTo, responded}
-use Rattle.machine.specs.Finish.{isSlot, takenRequest, takenRow, takenFrom, taken, isBody, isPresent, completedRow, completedIn, completed, isReceive, timedOut, wasReset}
+use Rattle.machine.specs.Finish.{isSlot, takenRequest, withMark, taken, isBody, completedBy, completed, declaredBy, wasDeclared, isReceive, timedOut, wasReset}
 use Rattle.machine.specs.Poll.{otherSlot}
 use Rattle.machine.specs.Valid.{Valid, Sound}
-use Rattle.machine.specs.Calls.{take!, read, complete, timeout, number, given, stepped, byOutcome, byDone, byTake, step}
-use Rattle.machine.specs.History.{Trace, phaseAt, completing, taking, commanded, transmitted}
-use Rattle.machine.specs.Types.{Ticket, Taking, Untaken, Taken, Request, Phase, Idle, Receive, Process, Answered, Transmit, Slot, Done, TakeDone}
+use Rattle.machine.specs.Calls.{take!, read, complete, declare, timeout, number, stepped, byOutcome, byDone, byTake, step}
+use Rattle.machine.specs.History.{Trace, phaseAt, withTakes, completing, commanded, transmitted}
+use Rattle.machine.specs.Types.{Ticket, Request, Phase, Idle, Receive, Process, Answered, Transmit, Slot, Done, TakeDone, Presented}
 use Rattle.machine.proofs.Slots.{isEarly, other-most}
-use Rattle.machine.proofs.Keeps.{slot-most}
+use Rattle.machine.proofs.Cases.{slot-most, Waiting, take-cases, unmatched-not, Match, ticket-cases}
 use Rattle.machine.proofs.Places.{Which, this, that, which, other-differs, slot-this, slot-that, store-this, store-that}
 use Rattle.machine.proofs.Fits.{takesOf, Asked, Fit, stayed, handed-over, worked, Carried, quiet-other, carried-same, carried-ended, carried-cut, carried-settled, settled-process, response-is}
 use Rattle.machine.proofs.Received.{Carries}
 
 module _ (w₀ : World) (trace : ℕ → Trace) (s₀ : Sound w₀)
     (fits : (j : ℕ) → j ≤ 1 → Fit (w₀ .endpoint .unit) (slotAt (w₀ .endpoint) j) (storeAt w₀ j) (trace j)) where
-  -- ---- taking
+  -- ---- a command that is taken, or of which something is declared
 
-  took : (i : ℕ) → i ≤ 1 → (r : Request) → phaseAt w₀ i ≡ Process r → r .taking ≡ Untaken
-      → Carries (take! i) w₀ trace (stepped (given (slotAt (w₀ .endpoint) i .ticket)) (withEndpoint w₀ (withSlot (w₀ .endpoint) i (withPhase (slotAt (w₀ .endpoint) i) (Process (takenRequest r))))))
-  took i is r p u = record { frame = refl; carried = λ j js. at j js (which i j is js) }
+  -- the trace's takes are given for each slot; of this one there is one
+  marked : (i : ℕ) → i ≤ 1 → (r : Request) (can : Bool) → phaseAt w₀ i ≡ Process r → (takes : ℕ → ℕ) → takes i ≡ 1 → (j : ℕ) → j ≤ 1
+      → Carried (w₀ .endpoint .unit) (false ≡ true) (slotAt (w₀ .endpoint) j) (slotAt (withMark (w₀ .endpoint) i r can) j) (storeAt w₀ j) (trace j)
+      (transmitted (phaseAt w₀ j) (slotAt (withMark (w₀ .endpoint) i r can) j .phase) (number 0) (if eqb i j then withTakes (trace j) (takes j) can else trace j))
+  marked i is r can p takes one j js = at (which i j is js)
     where
       s : Slot
-      s = withPhase (slotAt (w₀ .endpoint) i) (Process (takenRequest r))
+      s = withPhase (slotAt (w₀ .endpoint) i) (Process (takenRequest r can))
 
-      this-one : Carried (w₀ .endpoint .unit) (false ≡ true) (slotAt (w₀ .endpoint) i) (withPhase (slotAt (w₀ .endpoint) i) (Process (takenRequest r))) (storeAt w₀ i) (trace i)
-          (transmitted (phaseAt w₀ i) (Process (takenRequest r)) (number 0) (taking (trace i)))
+      this-one : Carried (w₀ .endpoint .unit) (false ≡ true) (slotAt (w₀ .endpoint) i) s (storeAt w₀ i) (trace i)
+          (transmitted (phaseAt w₀ i) (Process (takenRequest r can)) (number 0) (withTakes (trace i) (takes i) can))
       this-one =
           let k : Asked r (storeAt w₀ i) (trace i) = rw p at (fits i is .phase-fits) in
-          let one : trace i .takes + 1 ≡ 1 = omega (arith, k .takes-are ∙ ap takesOf u) in
-          rw (quiet-other (phaseAt w₀ i) (Process (takenRequest r)) 0 (taking (trace i)) refl)
+          rw (quiet-other (phaseAt w₀ i) (Process (takenRequest r can)) 0 (withTakes (trace i) (takes i) can) refl)
           (record {
             fit =
                 record {
-                  phase-fits = record { held = k .held; kind-is = k .kind-is; from = k .from; under = k .under; unfixed = k .unfixed; takes-are = one };
+                  phase-fits = record { held = k .held; kind-is = k .kind-is; from = k .from; under = k .under; unfixed = k .unfixed; takes-are = one; mark-is = refl };
                   ticket-is = fits i is .ticket-is;
                 };
             entry = stayed refl (λ h. (rw p refl, refl));
-            steady = handed-over r p refl;
+            steady = handed-over r can p refl;
           })
 
-      at : (j : ℕ) → j ≤ 1 → Which i j
-          → Carried (w₀ .endpoint .unit) (false ≡ true) (slotAt (w₀ .endpoint) j) (slotAt (withSlot (w₀ .endpoint) i (withPhase (slotAt (w₀ .endpoint) i) (Process (takenRequest r)))) j) (storeAt w₀ j) (trace j)
-          (transmitted (phaseAt w₀ j) (slotAt (withSlot (w₀ .endpoint) i (withPhase (slotAt (w₀ .endpoint) i) (Process (takenRequest r)))) j .phase) (number 0)
-          (if eqb i j then taking (trace j) else trace j))
-      at j js (this q) = rw (q, slot-this i is (s₀ .state) (withPhase (slotAt (w₀ .endpoint) i) (Process (takenRequest r))), eq-eqb i i refl) this-one
-      at j js (that q) =
-          rw (q, slot-that i is (s₀ .state) (withPhase (slotAt (w₀ .endpoint) i) (Process (takenRequest r))), ne-eqb i (otherSlot i) (λ e. other-differs i is (sym e)))
+      at : Which i j
+          → Carried (w₀ .endpoint .unit) (false ≡ true) (slotAt (w₀ .endpoint) j) (slotAt (withSlot (w₀ .endpoint) i s) j) (storeAt w₀ j) (trace j)
+          (transmitted (phaseAt w₀ j) (slotAt (withSlot (w₀ .endpoint) i s) j .phase) (number 0) (if eqb i j then withTakes (trace j) (takes j) can else trace j))
+      at (this q) = rw (q, slot-this i is (s₀ .state) s, eq-eqb i i refl) this-one
+      at (that q) =
+          rw (q, slot-that i is (s₀ .state) s, ne-eqb i (otherSlot i) (λ e. other-differs i is (sym e)))
           (carried-same 0 refl refl (fits (otherSlot i) (other-most i)))
 
+  -- ---- taking
+
   pub take-carries : (i : ℕ) → Carries (take! i) w₀ trace (byTake w₀ (taken (w₀ .endpoint) i))
-  unfolding taken
-  take-carries i = if-ind After (not (isSlot i)) (λ _. none) (λ h. from (slot-most i h) (phaseAt w₀ i) refl)
+  take-carries i =
+      take-cases (λ (d : TakeDone). Carries (take! i) w₀ trace (byTake w₀ d)) (w₀ .endpoint) i
+      (λ _ _. record { frame = refl; carried = λ j js. carried-same 0 refl refl (fits j js) })
+      (λ k. record { frame = refl; carried = marked i (k .slot-is) (k .request) false (k .in-process) (λ j. trace j .takes + 1) (one k) })
     where
-      After : TakeDone → Type 0
-      After d = Carries (take! i) w₀ trace (byTake w₀ d)
-
-      none : {n : ℕ} → Carries (take! i) w₀ trace (stepped (number n) w₀)
-      none = record { frame = refl; carried = λ j js. carried-same 0 refl refl (fits j js) }
-
-      row : i ≤ 1 → (r : Request) (t : Taking) → r .taking ≡ t → phaseAt w₀ i ≡ Process r → After (takenRow (w₀ .endpoint) i r t)
-      row is r Untaken u p = took i is r p u
-      row is r Taken u p = none
-
-      from : i ≤ 1 → (p : Phase) → phaseAt w₀ i ≡ p → After (takenFrom (w₀ .endpoint) i p)
-      from is (Idle held) p = none
-      from is (Receive a) p = none
-      from is (Process r) p = row is r (r .taking) refl p
-      from is (Answered r) p = none
-      from is (Transmit r) p = none
+      one : (k : Waiting (w₀ .endpoint) i) → trace i .takes + 1 ≡ 1
+      one k =
+          let asked : Asked (k .request) (storeAt w₀ i) (trace i) = rw (k .in-process) at (fits i (k .slot-is) .phase-fits) in
+          omega (arith, asked .takes-are ∙ ap takesOf (k .untaken))
 
   pub read-carries : (i : ℕ) → Carries (read i) w₀ trace (step (read i) w₀)
   unfolding step
@@ -137,7 +129,10 @@ module _ (w₀ : World) (trace : ℕ → Trace) (s₀ : Sound w₀)
   pub complete-carries : (i : ℕ) (t : Ticket) (body : List ℕ) → Carries (complete i t body) w₀ trace (byOutcome (completed w₀ i t body))
   unfolding completed
   complete-carries i t body =
-      if-ind After (wrongStores w₀) (λ _. none 40 refl) (λ _. if-ind After (not (isSlot i)) (λ _. none 30 refl) (λ h. into (slot-most i h) (phaseAt w₀ i) refl))
+      if-ind After (wrongStores w₀) (λ _. none 40 refl)
+      (λ _.
+      ticket-cases (λ (x : Presented). After (completedBy w₀ i body x)) (w₀ .endpoint) i t (λ n d. none n (unmatched-not d))
+      (λ k. if-ind After (not (isBody body)) (λ _. none 35 refl) (λ _. finished i t body (k .slot-is) (k .request) (k .in-process))))
     where
       After : Outcome → Type 0
       After o = Carries (complete i t body) w₀ trace (byOutcome o)
@@ -145,16 +140,19 @@ module _ (w₀ : World) (trace : ℕ → Trace) (s₀ : Sound w₀)
       none : (n : ℕ) → eqb n 0 ≡ false → Carries (complete i t body) w₀ trace (stepped (number n) w₀)
       none n e = record { frame = refl; carried = λ j js. rw e (carried-same 0 refl refl (fits j js)) }
 
-      row : i ≤ 1 → (r : Request) (u : Taking) → phaseAt w₀ i ≡ Process r → After (completedRow w₀ i r body u)
-      row is r Untaken p = none 34 refl
-      row is r Taken p = if-ind After (not (isBody body)) (λ _. none 35 refl) (λ _. finished i t body is r p)
+  -- ---- declaring
 
-      into : i ≤ 1 → (p : Phase) → phaseAt w₀ i ≡ p → After (completedIn w₀ i t body p)
-      into is (Idle held) p = none 31 refl
-      into is (Receive a) p = none 31 refl
-      into is (Process r) p = if-ind After (not (isPresent t (slotAt (w₀ .endpoint) i))) (λ _. none 32 refl) (λ _. row is r (r .taking) p)
-      into is (Answered r) p = none 31 refl
-      into is (Transmit r) p = none 31 refl
+  pub declare-carries : (i : ℕ) (t : Ticket) (can : Bool) → Carries (declare i t can) w₀ trace (byDone w₀ (wasDeclared (w₀ .endpoint) i t can))
+  unfolding wasDeclared
+  declare-carries i t can =
+      ticket-cases (λ (x : Presented). Carries (declare i t can) w₀ trace (byDone w₀ (declaredBy (w₀ .endpoint) i can x))) (w₀ .endpoint) i t
+      (λ n d. record { frame = refl; carried = λ j js. rw (unmatched-not d) (carried-same 0 refl refl (fits j js)) })
+      (λ k. record { frame = refl; carried = marked i (k .slot-is) (k .request) can (k .in-process) (λ j. trace j .takes) (one k) })
+    where
+      one : (k : Match (w₀ .endpoint) i t) → trace i .takes ≡ 1
+      one k =
+          let asked : Asked (k .request) (storeAt w₀ i) (trace i) = rw (k .in-process) at (fits i (k .slot-is) .phase-fits) in
+          asked .takes-are ∙ ap takesOf (k .was-taken)
 
   -- ---- timeout
 

@@ -30,10 +30,15 @@ use Rattle.machine.proofs.Slots.{isEarly}
 -- how often a command in Process was taken
 abbrev pub takesOf : Taking → ℕ
 takesOf Untaken = 0
-takesOf Taken = 1
+takesOf (Taken can) = 1
+
+-- what was declared last of it
+abbrev pub markOf : Taking → Bool
+markOf Untaken = false
+markOf (Taken can) = can
 
 -- a command in Process: the store's front is the request, the state has its kind, sender and tag, no response is fixed, and the trace counts
--- its take
+-- its take and has its mark
 pub record Asked (r : Request) (store : List ℕ) (l : Trace) : Type 0 where
   pub held : take (r .length) store ≡ l .request
   pub kind-is : r .kind ≡ kindOf (l .request)
@@ -41,6 +46,7 @@ pub record Asked (r : Request) (store : List ℕ) (l : Trace) : Type 0 where
   pub under : r .tag ≡ l .tag
   pub unfixed : l .response ≡ []
   pub takes-are : l .takes ≡ takesOf (r .taking)
+  pub mark-is : l .stoppable ≡ markOf (r .taking)
 
 -- a response that is there: the store's front is the response of the last entry, to its requester under its tag
 pub record Full (r : Response) (store : List ℕ) (l : Trace) : Type 0 where
@@ -82,7 +88,7 @@ pub data Steady (C : Type 0) (p q : Phase) : Type 0 where
   same : q ≡ p → Steady C p q
   newly : isEarly p ≡ true → isBegun q ≡ false → Steady C p q
   released : (r : Response) → p ≡ Answered r → q ≡ Transmit (outgoing r 0) → Steady C p q
-  handed-over : (r : Request) → p ≡ Process r → q ≡ Process (takenRequest r) → Steady C p q
+  handed-over : (r : Request) (can : Bool) → p ≡ Process r → q ≡ Process (takenRequest r can) → Steady C p q
   worked : (r : Request) (b : Bool) (x : Response) → p ≡ Process r → q ≡ settled b x → Steady C p q
   fell : C → q ≡ Idle NoResponse → Steady C p q
 

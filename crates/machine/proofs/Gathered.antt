@@ -10,7 +10,7 @@ use lib.ListN.{length, take}
 use lib.Seq.{length-take-le}
 use borrow.Author.Tests.{eq-eqb}
 use Rattle.lent.specs.Choice.{if_then_else_}
-use Rattle.lent.proofs.Choice.{if-ind, false-true, both-and}
+use Rattle.lent.proofs.Choice.{false-true, both-and}
 use Rattle.mctp.specs.Header.{readHeader, fields, payloadOf}
 use Rattle.mctp.specs.Cut.{cut}
 use Rattle.mctp.specs.Gather.{joinRefusal, Assembling, Gathered, nothing, refused as refuses, more, whole, joined, first, gatherRead, gather}
@@ -23,7 +23,7 @@ use Rattle.machine.specs.Wire.{inward}
 use Rattle.machine.specs.Receive.{refused, refusedBusy, received}
 use Rattle.machine.specs.Valid.{PhaseFacts, Sound}
 use Rattle.machine.specs.Calls.{receive, Event, number, step}
-use Rattle.machine.specs.History.{Trace, History, bytesFrom4, phaseAt, isTransmit, isPacketOf, isFor, requestWith, commanded, transmitted, next, run, start, unitOf}
+use Rattle.machine.specs.History.{Trace, History, bytesFrom4, phaseAt, isFor, requestWith, commanded, next, run, start, unitOf}
 use Rattle.machine.specs.Gathering.{gatheringIn, gatheringAt, Gathers, GathersSo, Arrives, last, one-more, GathersAll, CutGathered}
 use Rattle.machine.proofs.Slots.{facts-at, from-same}
 use Rattle.machine.proofs.Receiving.{Origin, opens, goes-on, Joining, filled, grown, Ground, in-table, of-control, of-no-slot, Break, in-sequence, in-size, in-total, Walk, walked}
@@ -32,7 +32,8 @@ use Rattle.machine.proofs.Keeps.{store-at}
 use Rattle.machine.proofs.Fits.{Fit}
 use Rattle.machine.proofs.Received.{Mid, for-that, phase-before, start-mid, ended-mid}
 use Rattle.machine.proofs.Histories.{Good, good-next, good-every, next-end}
-use Rattle.machine.proofs.Commands.{same-number}
+use Rattle.machine.proofs.Cases.{same-number}
+use Rattle.machine.proofs.Traces.{sent-cases}
 
 -- ---- one packet, in `mctp`'s words
 
@@ -160,16 +161,14 @@ takes-request : (h : History) (i : ℕ) (p : List ℕ) → step (receive p) (h .
     → next (receive p) h .trace i .request ≡ requestWith p (h .trace i)
 unfolding next
 takes-request h i p e k =
-    kept (phaseAt (h .world) i) (phaseAt (step (receive p) (h .world) .world) i) (step (receive p) (h .world) .event) _ (by (step (receive p) (h .world) .event) e)
+    let f = by (step (receive p) (h .world) .event) e in
+    sent-cases Has (phaseAt (h .world) i) (phaseAt (step (receive p) (h .world) .world) i) (step (receive p) (h .world) .event) _ f (λ n s. f)
   where
     Has : Trace → Type 0
     Has l = l .request ≡ requestWith p (h .trace i)
 
     by : (v : Event) → v ≡ number 0 → Has (commanded i (receive p) (h .world) v (h .trace i))
     by v q = rw (q, k) refl
-
-    kept : (x y : Phase) (v : Event) (l : Trace) → Has l → Has (transmitted x y v l)
-    kept x y v l f = if-ind Has (not (isTransmit x) && isTransmit y) (λ _. f) (λ _. if-ind Has (isPacketOf x y v) (λ _. f) (λ _. f))
 
 gathers-one : (h : History) → Good h → (p : List ℕ) (i : ℕ) → i ≤ 1 → isFor i p (h .world) ≡ true → Gathers h i p
 unfolding step next

@@ -13,7 +13,7 @@ use Rattle.machine.specs.State.{World, slotAt, storeAt, fresh, ticket}
 use Rattle.machine.specs.Wire.{store-size}
 use Rattle.machine.specs.Finish.{wasReset, wasSetUp}
 use Rattle.machine.specs.Valid.{Sound}
-use Rattle.machine.specs.Calls.{Call, receive, take!, read, complete, poll, timeout, reset, isPlain, Stepped, step, begin}
+use Rattle.machine.specs.Calls.{Call, receive, take!, read, complete, declare, poll, timeout, reset, isPlain, Stepped, step, begin}
 use Rattle.machine.specs.History.{Trace, History, traceAfter, next, run, start}
 use Rattle.machine.specs.Demands.{AlwaysSound}
 use Rattle.machine.specs.Types.{Slot, Done}
@@ -21,7 +21,7 @@ use Rattle.machine.proofs.Places.{endOf, frame-end}
 use Rattle.machine.proofs.Keeps.{begin-valid, step-sound}
 use Rattle.machine.proofs.Fits.{Fit, Carried}
 use Rattle.machine.proofs.Received.{Carries, received-carries}
-use Rattle.machine.proofs.Finished.{take-carries, read-carries, complete-carries, timeout-carries, reset-carried}
+use Rattle.machine.proofs.Finished.{take-carries, read-carries, complete-carries, declare-carries, timeout-carries, reset-carried}
 use Rattle.machine.proofs.Polling.{PollCase, still, replies, sends, poll-case, PollKept, poll-kept}
 
 pub record Good (h : History) : Type 0 where
@@ -43,6 +43,7 @@ by-kind P plain polled was-reset (receive p) = plain (receive p) refl
 by-kind P plain polled was-reset (take! i) = plain (take! i) refl
 by-kind P plain polled was-reset (read i) = plain (read i) refl
 by-kind P plain polled was-reset (complete i t body) = plain (complete i t body) refl
+by-kind P plain polled was-reset (declare i t can) = plain (declare i t can) refl
 by-kind P plain polled was-reset (poll buffer) = polled buffer
 by-kind P plain polled was-reset (timeout i) = plain (timeout i) refl
 by-kind P plain polled was-reset reset = was-reset
@@ -53,6 +54,7 @@ plain-carries (receive p) h g e = received-carries (h .world) p (h .trace) (g .s
 plain-carries (take! i) h g e = take-carries (h .world) (h .trace) (g .sound) (g .fits) i
 plain-carries (read i) h g e = unfold step in (read-carries (h .world) (h .trace) (g .sound) (g .fits) i)
 plain-carries (complete i t body) h g e = complete-carries (h .world) (h .trace) (g .sound) (g .fits) i t body
+plain-carries (declare i t can) h g e = declare-carries (h .world) (h .trace) (g .sound) (g .fits) i t can
 plain-carries (poll buffer) h g e = false-true e
 plain-carries (timeout i) h g e = timeout-carries (h .world) (h .trace) (g .sound) (g .fits) i
 plain-carries reset h g e = false-true e

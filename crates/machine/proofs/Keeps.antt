@@ -30,12 +30,13 @@ use Rattle.machine.specs.Wire.{store-size, response-place, packetRoom, w
 use Rattle.machine.specs.Control.{pausedSlot, pause, resumedSlot, released, resume, abort, clearFlags, replayed, replay, primitive, replied, controlledBy, controlled}
 use Rattle.machine.specs.Process.{request, processing, responseTo, responded, respondedAtOnce, entered}
 use Rattle.machine.specs.Receive.{refused, refusedBusy, raised, flagOf, dropped, gathers, endedSlot, endAssembly, received}
-use Rattle.machine.specs.Finish.{isSlot, takenRow, takenFrom, taken, isBody, isPresent, completedRow, completedIn, completed, isReceive, timedOut, started, wasReset, initial, wasSetUp}
+use Rattle.machine.specs.Finish.{isSlot, withMark, taken, isBody, completedBy, completed, declaredBy, wasDeclared, isReceive, timedOut, started, wasReset, initial, wasSetUp}
 use Rattle.machine.specs.Poll.{Polled, otherSlot, sendingOr, hasBegun, begunOr, chosen, anyPaused, ready, replyFirst, isLast, advanced, afterPacket, sentControl, sentCommand, polledBy, polled}
 use Rattle.machine.specs.Valid.{phased, apart, isBegun, Fits, PhaseFacts, ValidSlot, ValidSlots, two, ValidFlags, ValidNumbers, Valid, Sound}
-use Rattle.machine.specs.Calls.{Call, receive, take!, read, complete, poll, timeout, reset, step, begin}
-use Rattle.machine.specs.Types.{Ticket, Assembly, Taking, Untaken, Taken, Request, Response, Outgoing, Held, NoResponse, Last, Phase, Idle, Receive, Process, Answered, Transmit, Slot, Endpoint, Done, TakeDone, Ready, Nothing, From, Acted}
+use Rattle.machine.specs.Calls.{Call, receive, take!, read, complete, declare, poll, timeout, reset, step, begin}
+use Rattle.machine.specs.Types.{Ticket, Assembly, Request, Response, Outgoing, Held, NoResponse, Last, Phase, Idle, Receive, Process, Answered, Transmit, Slot, Endpoint, Done, TakeDone, Presented, Ready, Nothing, From, Acted}
 use Rattle.machine.proofs.Slots.{held-idle, other-most, slot-facts, facts-at, apart-left, apart-new-left, apart-new-right}
+use Rattle.machine.proofs.Cases.{slot-most, take-cases, ticket-cases}
 use Rattle.machine.proofs.Receiving.{Units, Joining, filled, grown, Walk, csi-most, walked}
 
 -- ---- flags
@@ -418,26 +419,15 @@ received-valid w packet v = go (wrongStores w) refl
 
 -- ---- taking
 
-pub slot-most : (i : ℕ) → not (isSlot i) ≡ false → i ≤ 1
-slot-most i h = omega (arith, ltb-true i 2 (not-false (isSlot i) h))
+-- a command that is taken, or of which something is declared
+marked-valid : (e : Endpoint) (i : ℕ) (r : Request) (can : Bool) → i ≤ 1 → slotAt e i .phase ≡ Process r → Valid e → Valid (withMark e i r can)
+marked-valid e i r can is h v =
+    let f : PhaseFacts (e .unit) (slotAt e i .paused) (Process r) = rw h at (facts-at i is v) in
+    kept-quiet i is v _ f refl
 
-abbrev TakeLeft : TakeDone → Type 0
-TakeLeft d = Valid (d .endpoint)
-
-pub taken-valid : (e : Endpoint) (i : ℕ) → Valid e → TakeLeft (taken e i)
-unfolding taken
-taken-valid e i v = if-ind TakeLeft (not (isSlot i)) (λ _. v) (λ h. from (slot-most i h) (slotAt e i .phase) refl)
-  where
-    row : i ≤ 1 → (r : Request) (t : Taking) → PhaseFacts (e .unit) (slotAt e i .paused) (Process r) → TakeLeft (takenRow e i r t)
-    row is r Untaken f = kept-quiet i is v _ f refl
-    row is r Taken f = v
-
-    from : i ≤ 1 → (p : Phase) → slotAt e i .phase ≡ p → TakeLeft (takenFrom e i p)
-    from is (Idle held) h = v
-    from is (Receive a) h = v
-    from is (Process r) h = row is r (r .taking) (rw h at (facts-at i is v))
-    from is (Answered r) h = v
-    from is (Transmit r) h = v
+pub taken-valid : (e : Endpoint) (i : ℕ) → Valid e → Valid (taken e i .endpoint)
+taken-valid e i v =
+    take-cases (λ (d : TakeDone). Valid (d .endpoint)) e i (λ _ _. v) (λ k. marked-valid e i (k .request) false (k .slot-is) (k .in-process) v)
 
 -- ---- completing
 
@@ -452,22 +442,12 @@ pub completed-sound : (w : World) (i : ℕ) (t : Ticket) (body : List ℕ) → S
 unfolding completed
 completed-sound w i t body s =
     if-ind After (wrongStores w) (λ _. s)
-    (λ _. if-ind After (not (isSlot i)) (λ _. s) (λ h. into (slot-most i h) (slotAt (w .endpoint) i .phase)))
+    (λ _.
+    ticket-cases (λ (x : Presented). After (completedBy w i body x)) (w .endpoint) i t (λ _ _. s)
+    (λ m. if-ind After (not (isBody body)) (λ _. s) (λ h. let k = body-least body h in responded-sound i (m .request) body (m .slot-is) (k .0) (k .1) s)))
   where
     After : Outcome → Type 0
     After o = Sound (o .world)
-
-    row : i ≤ 1 → (r : Request) (u : Taking) → After (completedRow w i r body u)
-    row is r Untaken = s
-    row is r Taken =
-        if-ind After (not (isBody body)) (λ _. s) (λ h. let k = body-least body h in responded-sound i r body is (k .0) (k .1) s)
-
-    into : i ≤ 1 → (p : Phase) → After (completedIn w i t body p)
-    into is (Idle held) = s
-    into is (Receive a) = s
-    into is (Process r) = if-ind After (not (isPresent t (slotAt (w .endpoint) i))) (λ _. s) (λ _. row is r (r .taking))
-    into is (Answered r) = s
-    into is (Transmit r) = s
 
 pub completed-valid : (w : World) (i : ℕ) (t : Ticket) (body : List ℕ) → Valid (w .endpoint) → Stays (completed w i t body)
 completed-valid w i t body v = go (wrongStores w) refl
@@ -476,10 +456,15 @@ completed-valid w i t body v = go (wrongStores w) refl
     go true e = unfold completed in (rw e v)
     go false e = completed-sound w i t body (sound-of w e v) .state
 
--- ---- timeout, reset, setup
+-- ---- declaring, timeout, reset, setup
 
 abbrev DoneLeft : Done → Type 0
 DoneLeft d = Valid (d .endpoint)
+
+pub declared-valid : (e : Endpoint) (i : ℕ) (t : Ticket) (can : Bool) → Valid e → DoneLeft (wasDeclared e i t can)
+unfolding wasDeclared
+declared-valid e i t can v =
+    ticket-cases (λ (x : Presented). DoneLeft (declaredBy e i can x)) e i t (λ _ _. v) (λ k. marked-valid e i (k .request) can (k .slot-is) (k .in-process) v)
 
 pub timeout-valid : (e : Endpoint) (i : ℕ) → Valid e → DoneLeft (timedOut e i)
 unfolding timedOut
@@ -683,6 +668,7 @@ step-valid (receive packet) w v = received-valid w packet v
 step-valid (take! i) w v = taken-valid (w .endpoint) i v
 step-valid (read i) w v = v
 step-valid (complete i t body) w v = completed-valid w i t body v
+step-valid (declare i t can) w v = declared-valid (w .endpoint) i t can v
 step-valid (poll buffer) w v = polled-valid w buffer v
 step-valid (timeout i) w v = timeout-valid (w .endpoint) i v
 step-valid reset w v = reset-valid (w .endpoint) v
@@ -693,6 +679,7 @@ step-sound (receive packet) w s = received-sound w packet s
 step-sound (take! i) w s = sound-endpoint s (taken-valid (w .endpoint) i (s .state))
 step-sound (read i) w s = s
 step-sound (complete i t body) w s = completed-sound w i t body s
+step-sound (declare i t can) w s = sound-endpoint s (declared-valid (w .endpoint) i t can (s .state))
 step-sound (poll buffer) w s = sound-endpoint s (polled-valid w buffer (s .state))
 step-sound (timeout i) w s = sound-endpoint s (timeout-valid (w .endpoint) i (s .state))
 step-sound reset w s = sound-endpoint s (reset-valid (w .endpoint) (s .state))

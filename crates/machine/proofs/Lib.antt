@@ -1,10 +1,12 @@
 pub mod Slots
+pub mod Cases
 pub mod Receiving
 pub mod Primitives
 pub mod Keeps
 pub mod Invariant
 pub mod Places
 pub mod Touches
+pub mod Traces
 pub mod Fits
 pub mod Received
 pub mod Finished
@@ -17,10 +19,12 @@ pub mod Numbers
 pub mod Arrives
 pub mod Refusals
 pub mod Grounds
-pub mod Stale
 pub mod Commands
 pub mod Replies
+pub mod Lists
+pub mod Stale
 pub mod Identity
 pub mod Pauses
 pub mod Gathered
 pub mod Replays
+pub mod Stopping

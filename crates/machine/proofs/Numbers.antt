@@ -1,4 +1,4 @@
--- Taking, completing, timeout, polling and setup in document 01's numbers.
+-- Taking, completing, declaring, timeout, polling and setup in document 01's numbers.
 -- Assumes nothing.
 use Prim.Native.Nat.{ℕ, zero, suc, _+_, _^_, _≤_}
 use mathlib.Core.Path.{_≡_, refl, sym, ap, _∙_}
@@ -15,16 +15,17 @@ use Rattle.mctp.specs.Setup.{setupRefusal, setupNumber}
 use Rattle.mctp.proofs.Laws.{setup-numbers as so}
 use Rattle.machine.specs.State.{World, outcome, ended, slotAt, withSlot, idled}
 use Rattle.machine.specs.Wire.{wrongStores}
-use Rattle.machine.specs.Finish.{isSlot, takenRow, takenFrom, taken, takeSays, isPresent, completedRow, completedIn, completed, isReceive, timedOut, wasSetUp}
+use Rattle.machine.specs.Finish.{isSlot, takenRow, takenFrom, taken, takeSays, isPresent, presentedRow, presentedIn, presented, completedBy, completed, declaredBy, wasDeclared, isReceive, timedOut, wasSetUp}
 use Rattle.machine.specs.Process.{responded}
 use Rattle.machine.specs.Receive.{raised}
 use Rattle.machine.specs.Poll.{Polled, polledTo, pollSays, chosen, ready, replyFirst, controlPacket, commandPacket, sentControl, sentCommand, polledBy, polled}
 use Rattle.machine.specs.Valid.{phased, Valid}
 use Rattle.machine.specs.Calls.{pollEvent, step}
 use Rattle.machine.specs.History.{phaseAt, pausedAt, isTransmit, unitOf}
-use Rattle.machine.specs.Numbers.{isTaken, takeNumbers, TakeNumbers, rightSizes, completeIn, CompleteNumbers, isReceiving, timeoutNumber, TimeoutNumbers, isCommandReady, pollNumber, lengthOut, PollNumbers, SetUp, SetupNumbers}
-use Rattle.machine.specs.Types.{Taking, Untaken, Taken, Request, Outgoing, Phase, Idle, Receive, Process, Answered, Transmit, Endpoint, Ready, Nothing, From}
+use Rattle.machine.specs.Numbers.{isTaken, takeNumbers, TakeNumbers, ticketIn, ticketNumber, rightSizes, CompleteNumbers, DeclareNumbers, isReceiving, timeoutNumber, TimeoutNumbers, isCommandReady, pollNumber, lengthOut, PollNumbers, SetUp, SetupNumbers}
+use Rattle.machine.specs.Types.{Ticket, Taking, Untaken, Taken, Request, Outgoing, Phase, Idle, Receive, Process, Answered, Transmit, Endpoint, Presented, Unmatched, Matched, Ready, Nothing, From}
 use Rattle.machine.specs.declared.PollAnswer.the-variants.{Refused, Nothing as Silent, Packet}
+use Rattle.machine.proofs.Cases.{unmatched-not, ticket-cases}
 use Rattle.machine.proofs.Keeps.{chosen-at}
 use Rattle.machine.proofs.Delivery.{chosen-some, sending-phase}
 
@@ -41,7 +42,7 @@ take-numbers e i = by (isSlot i) refl
   where
     row : (r : Request) (t : Taking) → takeSays (takenRow e i r t .answer) ≡ (if isTaken t then (33, []) else (0, slotAt e i .ticket .0 ∷ []))
     row r Untaken = refl
-    row r Taken = refl
+    row r (Taken can) = refl
 
     from : (p : Phase) → takeSays (takenFrom e i p .answer)
         ≡ phased (31, []) (λ a. (31, [])) (λ r. if isTaken (r .taking) then (33, []) else (0, slotAt e i .ticket .0 ∷ [])) (λ r. (31, [])) (λ r. (31, [])) p
@@ -55,6 +56,35 @@ take-numbers e i = by (isSlot i) refl
     by true h = unfold taken in (rw (h, slot-one i true h) (from (slotAt e i .phase)))
     by false h = unfold taken in (rw (h, slot-one i false h) refl)
 
+-- ---- a ticket that is presented
+
+abbrev said : Presented → ℕ
+said (Unmatched n) = n
+said (Matched r) = 0
+
+said-is : (e : Endpoint) (i : ℕ) (t : Ticket) → said (presented e i t) ≡ ticketNumber e i t
+unfolding presented
+said-is e i t = slots (isSlot i) refl
+  where
+    row : (r : Request) (u : Taking) → said (presentedRow r u) ≡ (if not (isTaken u) then 34 else 0)
+    row r Untaken = refl
+    row r (Taken can) = refl
+
+    into : (p : Phase) → said (presentedIn t (slotAt e i) p) ≡ ticketIn (slotAt e i .ticket .0) t p
+    into (Idle held) = refl
+    into (Receive a) = refl
+    into (Process r) = mine (isPresent t (slotAt e i))
+      where
+        mine : (b : Bool) → said (if not b then Unmatched 32 else presentedRow r (r .taking)) ≡ (if not b then 32 else if not (isTaken (r .taking)) then 34 else 0)
+        mine true = row r (r .taking)
+        mine false = refl
+    into (Answered r) = refl
+    into (Transmit r) = refl
+
+    slots : (b : Bool) → isSlot i ≡ b → said (if not b then Unmatched 30 else presentedIn t (slotAt e i) (slotAt e i .phase)) ≡ ticketNumber e i t
+    slots true h = rw (slot-one i true h) (into (slotAt e i .phase))
+    slots false h = rw (slot-one i false h) refl
+
 -- ---- completing
 
 pub wrong-sizes : (w : World) → wrongStores w ≡ not (rightSizes w)
@@ -66,37 +96,29 @@ wrong-sizes w = by (eqb (length (w .store0)) 4224) (eqb (length (w .store1)) 422
 
 pub complete-numbers : CompleteNumbers
 unfolding completed
-complete-numbers w i t body = rw (wrong-sizes w) (stores (not (rightSizes w)))
+complete-numbers w i t body = rw (wrong-sizes w, sym (said-is (w .endpoint) i t)) (stores (not (rightSizes w)))
   where
-    row : (r : Request) (u : Taking) → completedRow w i r body u .answer ≡ (if not (isTaken u) then 34 else if ltb (length body) 4 || ltb 4216 (length body) then 35 else 0)
-    row r Untaken = refl
-    row r Taken = size (ltb (length body) 4 || ltb 4216 (length body))
-      where
-        size : (b : Bool) → (if not (not b) then outcome 35 w else outcome 0 (responded w i r body)) .answer ≡ (if b then 35 else 0)
-        size true = refl
-        size false = refl
+    size : (r : Request) (b : Bool) → (if not (not b) then outcome 35 w else outcome 0 (responded w i r body)) .answer ≡ (if b then 35 else 0)
+    size r true = refl
+    size r false = refl
 
-    into : (p : Phase) → completedIn w i t body p .answer ≡ completeIn (slotAt (w .endpoint) i .ticket .0) t body p
-    into (Idle held) = refl
-    into (Receive a) = refl
-    into (Process r) = mine (isPresent t (slotAt (w .endpoint) i))
-      where
-        mine : (b : Bool) → (if not b then outcome 32 w else completedRow w i r body (r .taking)) .answer
-            ≡ (if not b then 32 else if not (isTaken (r .taking)) then 34 else if ltb (length body) 4 || ltb 4216 (length body) then 35 else 0)
-        mine true = row r (r .taking)
-        mine false = refl
-    into (Answered r) = refl
-    into (Transmit r) = refl
+    By : Presented → Type 0
+    By x = completedBy w i body x .answer ≡ (if not (eqb (said x) 0) then said x else if ltb (length body) 4 || ltb 4216 (length body) then 35 else 0)
 
-    slots : (b : Bool) → isSlot i ≡ b → (if not b then outcome 30 w else completedIn w i t body (phaseAt w i)) .answer
-        ≡ (if ltb 1 i then 30 else completeIn (slotAt (w .endpoint) i .ticket .0) t body (phaseAt w i))
-    slots true h = rw (slot-one i true h) (into (phaseAt w i))
-    slots false h = rw (slot-one i false h) refl
-
-    stores : (b : Bool) → (if b then outcome 40 w else if not (isSlot i) then outcome 30 w else completedIn w i t body (phaseAt w i)) .answer
-        ≡ (if b then 40 else if ltb 1 i then 30 else completeIn (slotAt (w .endpoint) i .ticket .0) t body (phaseAt w i))
+    stores : (b : Bool) → (if b then outcome 40 w else completedBy w i body (presented (w .endpoint) i t)) .answer
+        ≡ (if b then 40 else if not (eqb (said (presented (w .endpoint) i t)) 0) then said (presented (w .endpoint) i t) else if ltb (length body) 4 || ltb 4216 (length body) then 35 else 0)
     stores true = refl
-    stores false = slots (isSlot i) refl
+    stores false = ticket-cases By (w .endpoint) i t (λ n d. rw (unmatched-not d) refl) (λ k. size (k .request) (ltb (length body) 4 || ltb 4216 (length body)))
+
+-- ---- declaring
+
+pub declare-numbers : DeclareNumbers
+unfolding wasDeclared
+declare-numbers e i t can = by (presented e i t) ∙ said-is e i t
+  where
+    by : (x : Presented) → declaredBy e i can x .answer ≡ said x
+    by (Unmatched n) = refl
+    by (Matched r) = refl
 
 -- ---- timeout
 

@@ -22,10 +22,10 @@ use Rattle.machine.specs.Wire.{opcodeOf, noParameter, clearsFlags}
 use Rattle.machine.specs.Control.{pausedSlot, pause, abort, clearFlags, replayed, replay, primitive, controlledBy, controlled}
 use Rattle.machine.specs.Process.{processing, responseTo, responded, respondedAtOnce, pausedIf, entered}
 use Rattle.machine.specs.Receive.{refused, refusedBusy, dropped, gathers, endedSlot, endAssembly, received}
-use Rattle.machine.specs.Finish.{taken, completed, timedOut, wasReset}
+use Rattle.machine.specs.Finish.{taken, completed, wasDeclared, timedOut, wasReset}
 use Rattle.machine.specs.Poll.{otherSlot, isLast, afterPacket}
 use Rattle.machine.specs.Valid.{Valid, Sound, PhaseFacts}
-use Rattle.machine.specs.Calls.{Call, receive, take!, read, complete, poll, timeout, reset, Stepped, step}
+use Rattle.machine.specs.Calls.{Call, receive, take!, read, complete, declare, poll, timeout, reset, Stepped, step}
 use Rattle.machine.specs.History.{Trace, History, hasSom, sourceOf, messageTagOf, bytesFrom4, phaseAt, pausedAt, receivesFrom, isFor, requestWith, isPrimitive, run, start}
 use Rattle.machine.specs.Demands.{isIdleNow}
 use Rattle.machine.specs.Replies.{slotFound, actedOn}
@@ -36,7 +36,7 @@ use Rattle.machine.proofs.Receiving.{Units, Joining, filled, grown, who
 use Rattle.machine.proofs.Primitives.{is-primitive, acting}
 use Rattle.machine.proofs.Keeps.{received-sound, chosen-at, step-sound}
 use Rattle.machine.proofs.Places.{Which, this, that, which, slot-this, slot-that, slot-both}
-use Rattle.machine.proofs.Touches.{Touched, alone, handed, fixed, ended as timed-out, Touches, take-touches, complete-touches, timeout-touches}
+use Rattle.machine.proofs.Touches.{Touched, alone, handed, fixed, ended as timed-out, Touches, take-touches, complete-touches, declare-touches, timeout-touches}
 use Rattle.machine.proofs.Fits.{Fit}
 use Rattle.machine.proofs.Received.{Mid, for-this, for-that, front, in-process, command, e₁, e₂, w₂, e₂-valid, this-at, that-at, start-mid, ended-mid}
 use Rattle.machine.proofs.Polling.{PollCase, still, replies, sends, poll-case}
@@ -85,7 +85,7 @@ touched-flagged e f k j js = by (k j js)
   where
     by : {s t : Slot} → Touched s t → isIdleNow (t .phase) ≡ false → t .paused ≡ s .paused
     by (alone q) n = rw q refl
-    by (handed r p q) n = rw q refl
+    by (handed r can p q) n = rw q refl
     by (fixed r x p q) n = rw q refl
     by (timed-out p q) n = idle-no (ap (λ (x : Slot). x .phase) q) n
 
@@ -457,6 +457,8 @@ flags-so h g (take! j) i is = quiet-told (h .world) _ (step-sound (take! j) (h .
 flags-so h g (read j) i is = quiet-told (h .world) _ (step-sound (read j) (h .world) (g .sound)) (λ k ks _. refl) i is
 flags-so h g (complete j t body) i is =
     quiet-told (h .world) _ (step-sound (complete j t body) (h .world) (g .sound)) (touched-flagged (h .world .endpoint) (completed (h .world) j t body .world .endpoint) (complete-touches (h .world) (g .sound .state) j t body)) i is
+flags-so h g (declare j t can) i is =
+    quiet-told (h .world) _ (step-sound (declare j t can) (h .world) (g .sound)) (touched-flagged (h .world .endpoint) (wasDeclared (h .world .endpoint) j t can .endpoint) (declare-touches (h .world .endpoint) (g .sound .state) j t can)) i is
 flags-so h g (poll buffer) i is = quiet-told (h .world) _ (step-sound (poll buffer) (h .world) (g .sound)) (poll-flagged (h .world) (g .sound) buffer) i is
 flags-so h g (timeout j) i is = quiet-told (h .world) _ (step-sound (timeout j) (h .world) (g .sound)) (touched-flagged (h .world .endpoint) (timedOut (h .world .endpoint) j .endpoint) (timeout-touches (h .world .endpoint) (g .sound .state) j)) i is
 flags-so h g reset i is = quiet-told (h .world) _ (step-sound reset (h .world) (g .sound)) (reset-flagged (h .world .endpoint)) i is

@@ -384,7 +384,7 @@ module _ (w₀ : World) (packet : List ℕ) (trace : ℕ → Trace) (s₀ : Soun
               (record {
                 fit =
                     record {
-                      phase-fits = rw in-process (record { held = whole-is; kind-is = rw whole-is refl; from = refl; under = refl; unfixed = none; takes-are = refl });
+                      phase-fits = rw in-process (record { held = whole-is; kind-is = rw whole-is refl; from = refl; under = refl; unfixed = none; takes-are = refl; mark-is = refl });
                       ticket-is = ticket-next;
                     };
                 entry = entered was (rw in-process refl) refl;

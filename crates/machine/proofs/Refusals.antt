@@ -15,16 +15,17 @@ use Rattle.mctp.specs.Header.{fields}
 use Rattle.machine.specs.State.{World, Outcome, slotAt, withEndpoint, isIdle}
 use Rattle.machine.specs.Wire.{packetRoom, wrongStores}
 use Rattle.machine.specs.Receive.{refused, refusedBusy, dropped, endAssembly, flagOf, received}
-use Rattle.machine.specs.Finish.{isSlot, takenRow, takenFrom, taken, isBody, isPresent, completedRow, completedIn, completed, isReceive, timedOut}
+use Rattle.machine.specs.Finish.{isSlot, taken, presented, isBody, completedBy, completed, declaredBy, wasDeclared, isReceive, timedOut}
 use Rattle.machine.specs.Poll.{Polled, ready, replyFirst, polledBy, polled}
 use Rattle.machine.specs.Valid.{Valid, Sound}
-use Rattle.machine.specs.Calls.{receive, take!, read, complete, poll, timeout, reset, number, given, handed-out, takeEvent, pollEvent, step}
+use Rattle.machine.specs.Calls.{receive, take!, read, complete, declare, poll, timeout, reset, number, given, handed-out, takeEvent, pollEvent, step}
 use Rattle.machine.specs.History.{hasSom, sourceOf, messageTagOf, phaseAt, receivesFrom, isFor}
 use Rattle.machine.specs.Numbers.{rightSizes}
 use Rattle.machine.specs.Demands.{isIdleNow}
 use Rattle.machine.specs.Refusals.{FlagColumn, assemblyEnded, placeIn, stored, isCommand, Leaves, unread, tabled, unstored, busy, unknown, broken, failed, RefusedPacket, WrongStores, RefusedCall, isOneOf, Named}
-use Rattle.machine.specs.Types.{Ticket, Taking, Untaken, Taken, Request, Phase, Idle, Receive, Process, Answered, Transmit, Endpoint, Done, TakeDone, Ready, Nothing, From}
+use Rattle.machine.specs.Types.{Ticket, Phase, Idle, Receive, Process, Answered, Transmit, Endpoint, Done, TakeDone, Presented, Unmatched, Matched, Ready, Nothing, From}
 use Rattle.machine.proofs.Receiving.{receives-gathers, is-command, Origin, opens, goes-on, Joining, filled, Ground, in-table, of-control, of-no-slot, Busy, Gathering, Break, in-sequence, in-size, in-total, Walk, walked}
+use Rattle.machine.proofs.Cases.{same-number, NotTaken, take-30, take-31, take-33, take-cases, NotMatched, ticket-30, ticket-31, ticket-32, ticket-34, ticket-cases}
 use Rattle.machine.proofs.Numbers.{wrong-sizes}
 use Rattle.machine.proofs.Keeps.{sound-endpoint, sound-of, end-valid}
 
@@ -138,14 +139,12 @@ wrong-stores-unchanged (receive p) w l e = rw (wrong-so w e) (refl, refl)
 wrong-stores-unchanged (take! i) w l e = false-true l
 wrong-stores-unchanged (read i) w l e = false-true l
 wrong-stores-unchanged (complete i t body) w l e = rw (wrong-so w e) (refl, refl)
+wrong-stores-unchanged (declare i t can) w l e = false-true l
 wrong-stores-unchanged (poll buffer) w l e = rw (wrong-so w e) (refl, refl)
 wrong-stores-unchanged (timeout i) w l e = false-true l
 wrong-stores-unchanged reset w l e = false-true l
 
 -- ---- 30 to 39
-
-same-number : {m n : ℕ} → number m ≡ number n → m ≡ n
-same-number e = cc
 
 given-number : {A : Type 0} {t : Ticket} {n : ℕ} → given t ≡ number n → A
 given-number e = differ (cc e)
@@ -154,41 +153,26 @@ out-number : {A : Type 0} {s : List ℕ} {n : ℕ} → handed-out s ≡ number n
 out-number e = differ (cc e)
 
 take-unchanged : (e : Endpoint) (i n : ℕ) → takeEvent (taken e i .answer) ≡ number n → taken e i .endpoint ≡ e
-unfolding taken
-take-unchanged e i n = if-ind Unchanged (not (isSlot i)) (λ _ _. refl) (λ _. from (slotAt e i .phase))
-  where
-    Unchanged : TakeDone → Type 0
-    Unchanged d = takeEvent (d .answer) ≡ number n → d .endpoint ≡ e
-
-    row : (r : Request) (t : Taking) → Unchanged (takenRow e i r t)
-    row r Untaken q = given-number q
-    row r Taken q = refl
-
-    from : (p : Phase) → Unchanged (takenFrom e i p)
-    from (Idle held) q = refl
-    from (Receive a) q = refl
-    from (Process r) q = row r (r .taking) q
-    from (Answered r) q = refl
-    from (Transmit r) q = refl
+take-unchanged e i n = take-cases (λ (d : TakeDone). takeEvent (d .answer) ≡ number n → d .endpoint ≡ e) e i (λ _ _ _. refl) (λ k q. given-number q)
 
 complete-unchanged : (w : World) (i : ℕ) (t : Ticket) (body : List ℕ) → 30 ≤ completed w i t body .answer → completed w i t body .world ≡ w
 unfolding completed
 complete-unchanged w i t body =
-    if-ind Unchanged (wrongStores w) (λ _ _. refl) (λ _. if-ind Unchanged (not (isSlot i)) (λ _ _. refl) (λ _. into (slotAt (w .endpoint) i .phase)))
+    if-ind Unchanged (wrongStores w) (λ _ _. refl)
+    (λ _.
+    ticket-cases (λ (x : Presented). Unchanged (completedBy w i body x)) (w .endpoint) i t (λ _ _ _. refl)
+    (λ k. if-ind Unchanged (not (isBody body)) (λ _ _. refl) (λ _ h. absurd (omega arith))))
   where
     Unchanged : Outcome → Type 0
     Unchanged o = 30 ≤ o .answer → o .world ≡ w
 
-    row : (r : Request) (u : Taking) → Unchanged (completedRow w i r body u)
-    row r Untaken = λ _. refl
-    row r Taken = if-ind Unchanged (not (isBody body)) (λ _ _. refl) (λ _ h. absurd (omega arith))
-
-    into : (p : Phase) → Unchanged (completedIn w i t body p)
-    into (Idle held) = λ _. refl
-    into (Receive a) = λ _. refl
-    into (Process r) = if-ind Unchanged (not (isPresent t (slotAt (w .endpoint) i))) (λ _ _. refl) (λ _. row r (r .taking))
-    into (Answered r) = λ _. refl
-    into (Transmit r) = λ _. refl
+declare-unchanged : (e : Endpoint) (i : ℕ) (t : Ticket) (can : Bool) → 30 ≤ wasDeclared e i t can .answer → wasDeclared e i t can .endpoint ≡ e
+unfolding wasDeclared
+declare-unchanged e i t can = by (presented e i t)
+  where
+    by : (x : Presented) → 30 ≤ declaredBy e i can x .answer → declaredBy e i can x .endpoint ≡ e
+    by (Unmatched n) h = refl
+    by (Matched r) h = absurd (omega arith)
 
 timeout-unchanged : (e : Endpoint) (i : ℕ) → 30 ≤ timedOut e i .answer → timedOut e i .endpoint ≡ e
 unfolding timedOut
@@ -286,46 +270,40 @@ receive-named w p v = go (wrongStores w) refl
         walked w p Sound (Said w p s) (said-walk w p s) s (λ _. s) (λ _. sound-endpoint s (end-valid (fields p .source) (fields p .tag) v))
 
 take-named : (e : Endpoint) (i n : ℕ) → takeEvent (taken e i .answer) ≡ number n → In (30 ∷ 31 ∷ 33 ∷ []) n
-unfolding taken
-take-named e i n = if-ind Says (not (isSlot i)) (λ _ q. listed 30 q refl) (λ _. from (slotAt e i .phase))
+take-named e i n =
+    take-cases (λ (d : TakeDone). takeEvent (d .answer) ≡ number n → In (30 ∷ 31 ∷ 33 ∷ []) n) e i (λ k d q. rw (sym (same-number q)) (listed d))
+    (λ k q. given-number q)
   where
-    Says : TakeDone → Type 0
-    Says d = takeEvent (d .answer) ≡ number n → In (30 ∷ 31 ∷ 33 ∷ []) n
+    listed : {k : ℕ} → NotTaken k → In (30 ∷ 31 ∷ 33 ∷ []) k
+    listed take-30 = refl
+    listed take-31 = refl
+    listed take-33 = refl
 
-    listed : (k : ℕ) → number k ≡ number n → In (30 ∷ 31 ∷ 33 ∷ []) k → In (30 ∷ 31 ∷ 33 ∷ []) n
-    listed k q h = rw (sym (same-number q)) h
-
-    row : (r : Request) (t : Taking) → Says (takenRow e i r t)
-    row r Untaken = λ q. given-number q
-    row r Taken = λ q. listed 33 q refl
-
-    from : (p : Phase) → Says (takenFrom e i p)
-    from (Idle held) = λ q. listed 31 q refl
-    from (Receive a) = λ q. listed 31 q refl
-    from (Process r) = row r (r .taking)
-    from (Answered r) = λ q. listed 31 q refl
-    from (Transmit r) = λ q. listed 31 q refl
-
-abbrev completing : List ℕ
-completing = 0 ∷ 30 ∷ 31 ∷ 32 ∷ 34 ∷ 35 ∷ 40 ∷ []
-
-complete-named : (w : World) (i : ℕ) (t : Ticket) (body : List ℕ) → In completing (completed w i t body .answer)
+complete-named : (w : World) (i : ℕ) (t : Ticket) (body : List ℕ) → In (0 ∷ 30 ∷ 31 ∷ 32 ∷ 34 ∷ 35 ∷ 40 ∷ []) (completed w i t body .answer)
 unfolding completed
-complete-named w i t body = if-ind Says (wrongStores w) (λ _. refl) (λ _. if-ind Says (not (isSlot i)) (λ _. refl) (λ _. into (slotAt (w .endpoint) i .phase)))
+complete-named w i t body =
+    if-ind Says (wrongStores w) (λ _. refl)
+    (λ _. ticket-cases (λ (x : Presented). Says (completedBy w i body x)) (w .endpoint) i t (λ n d. listed d) (λ k. if-ind Says (not (isBody body)) (λ _. refl) (λ _. refl)))
   where
     Says : Outcome → Type 0
-    Says o = In completing (o .answer)
+    Says o = In (0 ∷ 30 ∷ 31 ∷ 32 ∷ 34 ∷ 35 ∷ 40 ∷ []) (o .answer)
 
-    row : (r : Request) (u : Taking) → Says (completedRow w i r body u)
-    row r Untaken = refl
-    row r Taken = if-ind Says (not (isBody body)) (λ _. refl) (λ _. refl)
+    listed : {n : ℕ} → NotMatched n → In (0 ∷ 30 ∷ 31 ∷ 32 ∷ 34 ∷ 35 ∷ 40 ∷ []) n
+    listed ticket-30 = refl
+    listed ticket-31 = refl
+    listed ticket-32 = refl
+    listed ticket-34 = refl
 
-    into : (p : Phase) → Says (completedIn w i t body p)
-    into (Idle held) = refl
-    into (Receive a) = refl
-    into (Process r) = if-ind Says (not (isPresent t (slotAt (w .endpoint) i))) (λ _. refl) (λ _. row r (r .taking))
-    into (Answered r) = refl
-    into (Transmit r) = refl
+declare-named : (e : Endpoint) (i : ℕ) (t : Ticket) (can : Bool) → In (0 ∷ 30 ∷ 31 ∷ 32 ∷ 34 ∷ []) (wasDeclared e i t can .answer)
+unfolding wasDeclared
+declare-named e i t can =
+    ticket-cases (λ (x : Presented). In (0 ∷ 30 ∷ 31 ∷ 32 ∷ 34 ∷ []) (declaredBy e i can x .answer)) e i t (λ n d. listed d) (λ k. refl)
+  where
+    listed : {n : ℕ} → NotMatched n → In (0 ∷ 30 ∷ 31 ∷ 32 ∷ 34 ∷ []) n
+    listed ticket-30 = refl
+    listed ticket-31 = refl
+    listed ticket-32 = refl
+    listed ticket-34 = refl
 
 timeout-named : (e : Endpoint) (i : ℕ) → In (0 ∷ 30 ∷ 37 ∷ []) (timedOut e i .answer)
 unfolding timedOut
@@ -356,6 +334,7 @@ named (receive p) w n v e = rw (sym (same-number e)) (receive-named w p v)
 named (take! i) w n v e = take-named (w .endpoint) i n e
 named (read i) w n v e = differ (cc e)
 named (complete i t body) w n v e = rw (sym (same-number e)) (complete-named w i t body)
+named (declare i t can) w n v e = rw (sym (same-number e)) (declare-named (w .endpoint) i t can)
 named (poll buffer) w n v e = poll-named w buffer n e
 named (timeout i) w n v e = rw (sym (same-number e)) (timeout-named (w .endpoint) i)
 named reset w n v e = rw (sym (same-number e)) refl
@@ -387,6 +366,7 @@ refused-call (receive p) w n v e lo hi = absurd (not-received n (named (receive 
 refused-call (take! i) w n v e lo hi = ap (withEndpoint w) (take-unchanged (w .endpoint) i n e)
 refused-call (read i) w n v e lo hi = refl
 refused-call (complete i t body) w n v e lo hi = complete-unchanged w i t body (rw (same-number e) lo)
+refused-call (declare i t can) w n v e lo hi = ap (withEndpoint w) (declare-unchanged (w .endpoint) i t can (rw (same-number e) lo))
 refused-call (poll buffer) w n v e lo hi = ap (withEndpoint w) (poll-unchanged w buffer n e)
 refused-call (timeout i) w n v e lo hi = ap (withEndpoint w) (timeout-unchanged (w .endpoint) i (rw (same-number e) lo))
 refused-call reset w n v e lo hi = absurd (omega (arith, same-number e))

@@ -23,7 +23,7 @@ use Rattle.machine.specs.Receive.{refused, refusedBusy, dropped, gathers
 use Rattle.machine.specs.Finish.{isReceive}
 use Rattle.machine.specs.Poll.{otherSlot, commandPacket, isLast, afterPacket}
 use Rattle.machine.specs.Valid.{PhaseFacts, Valid, Sound}
-use Rattle.machine.specs.Calls.{Call, receive, take!, read, complete, poll, timeout, reset, number, handed-out, Stepped, stepped, step}
+use Rattle.machine.specs.Calls.{Call, receive, take!, read, complete, declare, poll, timeout, reset, number, handed-out, Stepped, stepped, step}
 use Rattle.machine.specs.History.{Trace, History, sourceOf, messageTagOf, kindOf, receivesFrom, isFor, phaseAt, bytesFrom4, isTransmit, sending, moved, isControl, isPrimitive, isAbort, next, run, start, unitOf, overUnit}
 use Rattle.machine.specs.Demands.{mostPolls}
 use Rattle.machine.specs.Refusals.{isCommand}
@@ -33,7 +33,7 @@ use Rattle.machine.specs.Types.{Response, Outgoing, Held, NoResponse, La
 use Rattle.machine.proofs.Slots.{held-idle, facts-at, other-most}
 use Rattle.machine.proofs.Receiving.{is-command, Joining, filled, grown, whole, Ground, in-table, of-control, of-no-slot, Busy, Gathering, Break, in-sequence, in-size, in-total, Walk, walked, receives-gathers}
 use Rattle.machine.proofs.Places.{Which, this, that, which, slot-this, slot-that, slot-both}
-use Rattle.machine.proofs.Touches.{Touched, alone, handed, fixed, ended as timed-out, take-touches, complete-touches, timeout-touches}
+use Rattle.machine.proofs.Touches.{Touched, alone, handed, fixed, ended as timed-out, take-touches, complete-touches, declare-touches, timeout-touches}
 use Rattle.machine.proofs.Fits.{Fit, Full, Going, goes, quiet-begins}
 use Rattle.machine.proofs.Received.{Mid, for-this, for-that, command, e₂, w₂, e₂-valid, in-process, that-phase, start-mid, ended-mid}
 use Rattle.machine.proofs.Primitives.{acting}
@@ -383,7 +383,7 @@ receive-holds h g p i is = by (eqb (received (h .world) p .answer) 2) refl
 -- taking, completing and a timeout
 touched-holds : {s t : Slot} → Touched s t → heldIn (t .phase) ≡ heldIn (s .phase)
 touched-holds (alone q) = ap (λ (x : Slot). heldIn (x .phase)) q
-touched-holds (handed r p q) = rw (q, p) refl
+touched-holds (handed r can p q) = rw (q, p) refl
 touched-holds {s} (fixed r x p q) = rw (q, p) (settled-none (s .paused) x)
 touched-holds {s} (timed-out p q) = rw q (sym (receive-none (s .phase) p))
   where
@@ -453,6 +453,7 @@ moves h g (take! j) i is =
     (touched-holds (take-touches (h .world .endpoint) (g .sound .state) j i is))
 moves h g (read j) i is = refl
 moves h g (complete j t body) i is = touched-holds (complete-touches (h .world) (g .sound .state) j t body i is)
+moves h g (declare j t can) i is = touched-holds (declare-touches (h .world .endpoint) (g .sound .state) j t can i is)
 moves h g (poll buffer) i is = poll-holds i is buffer h g
 moves h g (timeout j) i is = touched-holds (timeout-touches (h .world .endpoint) (g .sound .state) j i is)
 moves h g reset i is = ap heldIn (cut-idle reset (h .world) (g .sound) i is refl)

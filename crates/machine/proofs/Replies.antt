@@ -7,7 +7,7 @@ use mathlib.Core.List.{List, [], _∷_, _++_}
 use native.Mathlib.Nat.{mod-eq-of-lt}
 use native.Mathlib.Omega.{arith}
 use lib.Bits.{bitOr, or-shifted-r, or-zero-r}
-use lib.Dec.{eqb, leb, ltb}
+use lib.Dec.{eqb, ltb}
 use lib.ListN.{length, drop, length-drop}
 use lib.Seq.{take-append-seam}
 use borrow.Author.Tests.{le-ltb, eq-eqb, ne-eqb, eqb-true, eqb-false, ltb-true, ltb-false, leb-true, not-true, not-false}
@@ -30,16 +30,17 @@ use Rattle.machine.specs.Wire.{packetRoom, inward, wrongStores, opcodeOf
 use Rattle.machine.specs.Control.{bit, pausedSlot, pause, pauseWord, released, resumedSlot, resume, takenWord, abortWord, abort, stateNumber, stateWord, clearFlags, replayed, replay, acted, primitive, replied, controlledBy, controlled}
 use Rattle.machine.specs.Process.{request, processing, responded, respondedAtOnce, pausedIf, entered}
 use Rattle.machine.specs.Receive.{refused, refusedBusy, endedSlot, endAssembly, firstBy, first, received}
-use Rattle.machine.specs.Finish.{isSlot, takenRow, takenFrom, taken, isBody, isPresent, completedRow, completedIn, completed, isReceive, timedOut, wasReset}
+use Rattle.machine.specs.Finish.{isSlot, taken, presented, isBody, completedBy, completed, declaredBy, wasDeclared, isReceive, timedOut, wasReset}
 use Rattle.machine.specs.Poll.{Polled, otherSlot, ready, controlPacket, sentControl, commandPacket, afterPacket, sentCommand, replyFirst, polledBy, polled}
 use Rattle.machine.specs.Valid.{PhaseFacts, ValidFlags, Valid, Sound}
-use Rattle.machine.specs.Calls.{Call, receive, take!, read, complete, poll, timeout, reset, number, handed-out, Stepped, stepped, byOutcome, takeEvent, byPoll, step}
+use Rattle.machine.specs.Calls.{Call, receive, take!, read, complete, declare, poll, timeout, reset, number, handed-out, Stepped, stepped, byOutcome, takeEvent, byPoll, step}
 use Rattle.machine.specs.History.{hasSom, sourceOf, messageTagOf, bytesFrom4, phaseAt, moved, unitOf, hasRoom, one?, run, start, controlTests, isControl, isPrimitive, isAbort, cuts}
 use Rattle.machine.specs.Demands.{isIdleNow, replyPacket, AbortIdles}
 use Rattle.machine.specs.Replies.{PrimitiveDone, csiOf, noCpsp, wrongReplay, isError, slotFound, worth, abortedProcess, abortedIn, stateOf, cpsrOf, bodyOf, unpaused, sentAgain, actedOn, flagsAfter, Replied, ControlReplied, isControlOut, SameReply, ReplyAfter, stays, goes, newer, was-reset, ReplyStays, ReplyFate, replaced, sent, replaces, pollsWithRoom, replyFate, GoesWithin, ReplyGoes}
-use Rattle.machine.specs.Types.{Ticket, Assembly, Taking, Untaken, Taken, Request, Outgoing, Held, NoResponse, Last, Phase, Idle, Receive, Process, Answered, Transmit, Slot, Endpoint, Done, TakeAnswer, TakeDone, Ready, Nothing, From, Acted}
+use Rattle.machine.specs.Types.{Ticket, Assembly, Taking, Untaken, Taken, Request, Outgoing, Held, NoResponse, Last, Phase, Idle, Receive, Process, Answered, Transmit, Slot, Endpoint, Done, TakeAnswer, TakeDone, Presented, Unmatched, Matched, Ready, Nothing, From, Acted}
 use Rattle.machine.specs.declared.TakeAnswer.the-variants.{Refused as TakeRefused, Given}
 use Rattle.machine.proofs.Slots.{facts-at}
+use Rattle.machine.proofs.Cases.{take-cases}
 use Rattle.machine.proofs.Receiving.{filled, grown, whole, right-stores, Ground, in-table, of-control, of-no-slot, Break, in-sequence, in-size, in-total, Controls, Walk, walked, csi-most, receives-gathers}
 use Rattle.machine.proofs.Invariant.{Each, each}
 use Rattle.machine.proofs.Primitives.{is-control, acting}
@@ -72,7 +73,8 @@ abort-word (Process r) = by (r .taking)
   where
     by : (t : Taking) → takenWord t ≡ abortedProcess t
     by Untaken = refl
-    by Taken = refl
+    by (Taken true) = refl
+    by (Taken false) = refl
 abort-word (Answered r) = refl
 abort-word (Transmit r) = refl
 
@@ -466,6 +468,7 @@ cut-idle (receive p) w s i is k = abort-idle w s p i is k
 cut-idle (take! j) w s i is k = false-true k
 cut-idle (read j) w s i is k = false-true k
 cut-idle (complete j t body) w s i is k = false-true k
+cut-idle (declare j t can) w s i is k = false-true k
 cut-idle (poll buffer) w s i is k = false-true k
 cut-idle (timeout j) w s i is k = false-true k
 cut-idle reset w s i is k = reset-idle (w .endpoint) i is
@@ -516,41 +519,26 @@ entered-still w i a mh =
     at-once x (Failure status) = responded-still x i (request a mh) (faultBody (Failure status))
 
 taken-still : (e : Endpoint) (i : ℕ) → Still e (taken e i .endpoint)
-unfolding taken
-taken-still e i = if-ind StillSo (not (isSlot i)) (λ _. refl) (λ _. from (slotAt e i .phase))
-  where
-    StillSo : TakeDone → Type 0
-    StillSo d = Still e (d .endpoint)
-
-    row : (r : Request) (t : Taking) → StillSo (takenRow e i r t)
-    row r Untaken = refl
-    row r Taken = refl
-
-    from : (p : Phase) → StillSo (takenFrom e i p)
-    from (Idle held) = refl
-    from (Receive a) = refl
-    from (Process r) = row r (r .taking)
-    from (Answered r) = refl
-    from (Transmit r) = refl
+taken-still e i = take-cases (λ (d : TakeDone). Still e (d .endpoint)) e i (λ _ _. refl) (λ _. refl)
 
 completed-still : (w : World) (i : ℕ) (t : Ticket) (body : List ℕ) → Still (w .endpoint) (completed w i t body .world .endpoint)
 unfolding completed
-completed-still w i t body =
-    if-ind StillSo (wrongStores w) (λ _. refl) (λ _. if-ind StillSo (not (isSlot i)) (λ _. refl) (λ _. into (slotAt (w .endpoint) i .phase)))
+completed-still w i t body = if-ind StillSo (wrongStores w) (λ _. refl) (λ _. by (presented (w .endpoint) i t))
   where
     StillSo : Outcome → Type 0
     StillSo o = Still (w .endpoint) (o .world .endpoint)
 
-    row : (r : Request) (u : Taking) → StillSo (completedRow w i r body u)
-    row r Untaken = refl
-    row r Taken = if-ind StillSo (not (isBody body)) (λ _. refl) (λ _. responded-still w i r body)
+    by : (x : Presented) → StillSo (completedBy w i body x)
+    by (Unmatched n) = refl
+    by (Matched r) = if-ind StillSo (not (isBody body)) (λ _. refl) (λ _. responded-still w i r body)
 
-    into : (p : Phase) → StillSo (completedIn w i t body p)
-    into (Idle held) = refl
-    into (Receive a) = refl
-    into (Process r) = if-ind StillSo (not (isPresent t (slotAt (w .endpoint) i))) (λ _. refl) (λ _. row r (r .taking))
-    into (Answered r) = refl
-    into (Transmit r) = refl
+declared-still : (e : Endpoint) (i : ℕ) (t : Ticket) (can : Bool) → Still e (wasDeclared e i t can .endpoint)
+unfolding wasDeclared
+declared-still e i t can = by (presented e i t)
+  where
+    by : (x : Presented) → Still e (declaredBy e i can x .endpoint)
+    by (Unmatched n) = refl
+    by (Matched r) = refl
 
 timed-out-still : (e : Endpoint) (i : ℕ) → Still e (timedOut e i .endpoint)
 unfolding timedOut
@@ -686,6 +674,7 @@ effect (take! i) w v = keeps refl (by (taken (w .endpoint) i .answer) (withEndpo
     by (Given t) after = refl
 effect (read i) w v = keeps refl refl refl (λ _. refl)
 effect (complete i t body) w v = keeps refl refl (completed-still w i t body) (λ _. refl)
+effect (declare i t can) w v = keeps refl refl (declared-still (w .endpoint) i t can) (λ _. refl)
 effect (poll buffer) w v = poll-effect w buffer v (unfold step in (poll-does w buffer v))
 effect (timeout i) w v = keeps refl refl (timed-out-still (w .endpoint) i) (λ _. refl)
 effect reset w v = unfold wasReset in (let gone : wasReset (w .endpoint) .endpoint .«reply_waits» ≡ false = refl in resets refl gone)

@@ -1,4 +1,4 @@
--- Demand 2's ticket rule on lists of calls: a completion that is accepted answers the command that its ticket was taken for, and every packet
+-- Demand 2's ticket rule on lists of calls: a completion or declaration that is accepted is for the command that its ticket was taken for, and every packet
 -- that leaves is of the response fixed for its slot's last entry into Process.
 -- Assumes nothing.
 use Prim.Native.Nat.{ℕ, zero, suc, _+_, _%_, _^_, _≤_, _<_}
@@ -7,23 +7,25 @@ use mathlib.Core.Bool.{Bool, true, false, not, _&&_}
 use mathlib.Core.List.{List, [], _∷_}
 use native.Mathlib.Omega.{arith}
 use lib.Dec.{eqb}
-use borrow.Author.Tests.{eq-eqb, eqb-true, not-true}
+use borrow.Author.Tests.{eq-eqb, ne-eqb, not-true}
 use Rattle.lent.specs.Choice.{if_then_else_}
 use Rattle.lent.proofs.Choice.{if-ind, false-true, and-both, differ}
 use Rattle.mctp.specs.Cut.{packet}
 use Rattle.mctp.proofs.Laws.{one-packet}
-use Rattle.machine.specs.State.{World, outcome, slotAt, storeAt, withSlot}
-use Rattle.machine.specs.Finish.{isSlot, takenRequest, takenRow, takenFrom, taken, part, isPresent, completedRow, completedIn, completed}
-use Rattle.machine.specs.Wire.{routeTo}
+use Rattle.machine.specs.State.{World, Outcome, slotAt, storeAt, withSlot}
+use Rattle.machine.specs.Finish.{isSlot, takenRequest, taken, part, presentedIn, presented, isBody, completedBy, completed, declaredBy, wasDeclared}
+use Rattle.machine.specs.Wire.{wrongStores, routeTo}
 use Rattle.machine.specs.Poll.{afterPacket, controlPacket, commandPacket}
 use Rattle.machine.specs.Valid.{PhaseFacts, Valid, Sound}
 use Rattle.machine.specs.Calls.{Call, take!, read, complete, poll, Event, number, given, part-read, handed-out, Stepped, takeEvent, step}
-use Rattle.machine.specs.History.{Trace, History, phaseAt, pausedAt, isTransmit, isPacketOf, moved, responseFor, commanded, transmitted, traceAfter, counts, next, run, start, unitOf, hasRoom}
-use Rattle.machine.specs.Demands.{TicketCount, isProcess, TicketRule, AnswersOwn, routeOf, replyPacket, AnswerBelongs, PausesHold, isAnswered, isIdleNow, FlagsFit}
-use Rattle.machine.specs.Types.{Ticket, Taking, Untaken, Taken, Request, Outgoing, Phase, Idle, Receive, Process, Answered, Transmit, Slot, Endpoint, TakeDone}
+use Rattle.machine.specs.History.{Trace, History, phaseAt, pausedAt, isPacketOf, moved, responseFor, commanded, transmitted, traceAfter, counts, next, run, start, unitOf, hasRoom}
+use Rattle.machine.specs.Demands.{TicketCount, isProcess, Presents, completes, declares, TicketRefused, TicketRule, TicketOwn, AnswersOwn, routeOf, replyPacket, AnswerBelongs, PausesHold, isAnswered, isIdleNow, FlagsFit}
+use Rattle.machine.specs.Types.{Ticket, Untaken, Request, Outgoing, Phase, Idle, Receive, Process, Answered, Transmit, Slot, Endpoint, TakeDone, Presented, Unmatched}
 use Rattle.machine.proofs.Slots.{facts-at}
+use Rattle.machine.proofs.Cases.{same-number, take-cases, unmatched-least, Match, ticket-cases}
+use Rattle.machine.proofs.Traces.{sent-cases}
 use Rattle.machine.proofs.Receiving.{right-stores}
-use Rattle.machine.proofs.Keeps.{slot-most, Chosen, chosen-at}
+use Rattle.machine.proofs.Keeps.{Chosen, chosen-at}
 use Rattle.machine.proofs.Places.{Which, this, that, which, slot-this, slot-that}
 use Rattle.machine.proofs.Fits.{Asked, Going, Fit, Entry, entered, stayed, There, goes, some-response}
 use Rattle.machine.proofs.Polling.{PollCase, still, replies, sends, poll-case, moved-same, onward, onward-moves}
@@ -66,7 +68,7 @@ pub record Gave (w : World) (i : ℕ) (t : Ticket) : Type 0 where
   pub request : Request
   pub in-process : phaseAt w i ≡ Process request
   pub untaken : request .taking ≡ Untaken
-  pub then-phase : phaseAt (step (take! i) w .world) i ≡ Process (takenRequest request)
+  pub then-phase : phaseAt (step (take! i) w .world) i ≡ Process (takenRequest request false)
 
 number-given : {A : Type 0} {n : ℕ} {t : Ticket} → number n ≡ given t → A
 number-given e = differ (cc e)
@@ -80,33 +82,23 @@ pub record GivesFrom (w : World) (i : ℕ) (t : Ticket) (d : TakeDone) : Type 0 
   pub request : Request
   pub in-process : phaseAt w i ≡ Process request
   pub untaken : request .taking ≡ Untaken
-  pub then-phase : slotAt (d .endpoint) i .phase ≡ Process (takenRequest request)
+  pub then-phase : slotAt (d .endpoint) i .phase ≡ Process (takenRequest request false)
 
 abbrev Gives : World → ℕ → Ticket → TakeDone → Type 0
 Gives w i t d = takeEvent (d .answer) ≡ given t → GivesFrom w i t d
 
 take-gives : (w : World) → Sound w → (i : ℕ) (t : Ticket) → Gives w i t (taken (w .endpoint) i)
-unfolding taken
-take-gives w s i t = if-ind (Gives w i t) (not (isSlot i)) (λ _ e. number-given e) (λ h. from (slot-most i h) (phaseAt w i) refl)
-  where
-    row : i ≤ 1 → (r : Request) (u : Taking) → phaseAt w i ≡ Process r → r .taking ≡ u → Gives w i t (takenRow (w .endpoint) i r u)
-    row is r Untaken p u e =
-        record {
-          slot-is = is;
-          ticket-is = same-ticket e;
-          request = r;
-          in-process = p;
-          untaken = u;
-          then-phase = ap (λ (x : Slot). x .phase) (slot-this i is (s .state) _);
-        }
-    row is r Taken p u e = number-given e
-
-    from : i ≤ 1 → (p : Phase) → phaseAt w i ≡ p → Gives w i t (takenFrom (w .endpoint) i p)
-    from is (Idle held) p e = number-given e
-    from is (Receive a) p e = number-given e
-    from is (Process r) p e = row is r (r .taking) p refl e
-    from is (Answered r) p e = number-given e
-    from is (Transmit r) p e = number-given e
+take-gives w s i t =
+    take-cases (Gives w i t) (w .endpoint) i (λ n d e. number-given e)
+    (λ k e.
+    record {
+      slot-is = k .slot-is;
+      ticket-is = same-ticket e;
+      request = k .request;
+      in-process = k .in-process;
+      untaken = k .untaken;
+      then-phase = ap (λ (x : Slot). x .phase) (slot-this i (k .slot-is) (s .state) _);
+    })
 
 pub gave : (w : World) → Sound w → (i : ℕ) (t : Ticket) → step (take! i) w .event ≡ given t → Gave w i t
 unfolding step
@@ -128,7 +120,10 @@ pub record TakeKeeps (l m : Trace) : Type 0 where
 
 pub take-keeps : (h : History) (i : ℕ) → TakeKeeps (h .trace i) (next (take! i) h .trace i)
 unfolding next
-take-keeps h i = sent (phaseAt (h .world) i) (phaseAt (step (take! i) (h .world) .world) i) (step (take! i) (h .world) .event) _ (by (step (take! i) (h .world) .event))
+take-keeps h i =
+    let k = by (step (take! i) (h .world) .event) in
+    sent-cases (TakeKeeps (h .trace i)) (phaseAt (h .world) i) (phaseAt (step (take! i) (h .world) .world) i) (step (take! i) (h .world) .event) _ k
+    (λ n s. record { entries-are = k .entries-are; request-is = k .request-is })
   where
     by : (v : Event) → TakeKeeps (h .trace i) (commanded i (take! i) (h .world) v (h .trace i))
     by (number n) = record { entries-are = refl; request-is = refl }
@@ -136,20 +131,15 @@ take-keeps h i = sent (phaseAt (h .world) i) (phaseAt (step (take! i) (h .world)
     by (part-read s) = record { entries-are = refl; request-is = refl }
     by (handed-out s) = record { entries-are = refl; request-is = refl }
 
-    sent : (p q : Phase) (v : Event) (m : Trace) → TakeKeeps (h .trace i) m → TakeKeeps (h .trace i) (transmitted p q v m)
-    sent p q v m k =
-        if-ind (TakeKeeps (h .trace i)) (not (isTransmit p) && isTransmit q) (λ _. record { entries-are = k .entries-are; request-is = k .request-is })
-        (λ _. if-ind (TakeKeeps (h .trace i)) (isPacketOf p q v) (λ _. record { entries-are = k .entries-are; request-is = k .request-is }) (λ _. k))
-
 take-entries : (h : History) (i : ℕ) → next (take! i) h .trace i .entries ≡ h .trace i .entries
 take-entries h i = take-keeps h i .entries-are
 
--- ---- completing with an older ticket
+-- ---- completing or declaring with an older ticket
 
 older : (a b : ℕ) → a < b → b < a + 2 ^ 32 → a % 2 ^ 32 ≡ b % 2 ^ 32 → ⊥
 older a b lo hi e = omega arith
 
-not-older : (a b : ℕ) → a ≤ b → b < a + 2 ^ 32 → a % 2 ^ 32 ≡ b % 2 ^ 32 → b ≡ a
+pub not-older : (a b : ℕ) → a ≤ b → b < a + 2 ^ 32 → a % 2 ^ 32 ≡ b % 2 ^ 32 → b ≡ a
 not-older a b lo hi e = omega arith
 
 pub slot-yes : (i : ℕ) → i ≤ 1 → isSlot i ≡ true
@@ -157,70 +147,74 @@ slot-yes zero h = refl
 slot-yes (suc zero) h = refl
 slot-yes (suc (suc n)) h = absurd (omega arith)
 
--- a ticket that is not the slot's present one
-pub other-refused : (w : World) → Sound w → (i : ℕ) → i ≤ 1 → (t : Ticket) (body : List ℕ) → (t .0 ≡ slotAt (w .endpoint) i .ticket .0 → ⊥)
-    → step (complete i t body) w .event ≡ number (if isProcess (phaseAt w i) then 32 else 31)
-unfolding step completed
-other-refused w s i is t body n = rw (right-stores w s, slot-yes i is) (into (phaseAt w i))
+-- a ticket that is not that of a command in Process
+not-present : (e : Endpoint) (i : ℕ) → i ≤ 1 → (t : Ticket) → (isProcess (slotAt e i .phase) ≡ true → t .0 ≡ slotAt e i .ticket .0 → ⊥)
+    → presented e i t ≡ Unmatched (if isProcess (slotAt e i .phase) then 32 else 31)
+unfolding presented
+not-present e i is t n = rw (slot-yes i is) (into (slotAt e i .phase) n)
   where
-    into : (p : Phase) → _≡_ {A = Event} (number (completedIn w i t body p .answer)) (number (if isProcess p then 32 else 31))
-    into (Idle held) = refl
-    into (Receive a) = refl
-    into (Process r) = go (isPresent t (slotAt (w .endpoint) i)) refl
-      where
-        go : (x : Bool) → isPresent t (slotAt (w .endpoint) i) ≡ x
-            → _≡_ {A = Event} (number ((if not x then outcome 32 w else completedRow w i r body (r .taking)) .answer)) (number 32)
-        go true e = absurd (n (eqb-true (t .0) (slotAt (w .endpoint) i .ticket .0) e))
-        go false e = refl
-    into (Answered r) = refl
-    into (Transmit r) = refl
+    into : (p : Phase) → (isProcess p ≡ true → t .0 ≡ slotAt e i .ticket .0 → ⊥) → presentedIn t (slotAt e i) p ≡ Unmatched (if isProcess p then 32 else 31)
+    into (Idle held) n = refl
+    into (Receive a) n = refl
+    into (Process r) n = rw (ne-eqb (t .0) (slotAt e i .ticket .0) (n refl)) refl
+    into (Answered r) n = refl
+    into (Transmit r) n = refl
+
+pub other-refused : (w : World) → Sound w → (i : ℕ) → i ≤ 1 → (t : Ticket) → (isProcess (phaseAt w i) ≡ true → t .0 ≡ slotAt (w .endpoint) i .ticket .0 → ⊥) → (c : Call) → Presents i t c
+    → TicketRefused w i c
+unfolding step completed wasDeclared
+other-refused w s i is t n c (completes body) =
+    let k = not-present (w .endpoint) i is t n in
+    record { answered = rw (right-stores w s, k) refl; unchanged = rw (right-stores w s, k) refl }
+other-refused w s i is t n c (declares can) =
+    let k = not-present (w .endpoint) i is t n in
+    record { answered = rw k refl; unchanged = rw k refl }
 
 pub ticket-rule : TicketRule
-ticket-rule eid unit store0 store1 a b xs i t e ys body lo hi =
+ticket-rule eid unit store0 store1 a b xs i t e ys lo hi =
     let h = run xs (start eid unit store0 store1) in
     let g = good-every eid unit store0 store1 a b xs in
     let k = gave (h .world) (g .sound) i t e in
     let is = k .slot-is in
     let g₂ = good-run ys (next (take! i) h) (good-next (take! i) h g) in
     let mine : t .0 ≡ h .trace i .entries % 2 ^ 32 = ap (λ (x : Ticket). x .0) (k .ticket-is) ∙ g .fits i is .ticket-is in
-    other-refused (run ys (next (take! i) h) .world) (g₂ .sound) i is t body
-    (λ q. older (h .trace i .entries) (run ys (next (take! i) h) .trace i .entries) lo hi (sym mine ∙ q ∙ g₂ .fits i is .ticket-is))
+    other-refused (run ys (next (take! i) h) .world) (g₂ .sound) i is t
+    (λ _ q. older (h .trace i .entries) (run ys (next (take! i) h) .trace i .entries) lo hi (sym mine ∙ q ∙ g₂ .fits i is .ticket-is))
 
--- ---- a completion that is accepted
+-- ---- a completion or a declaration that is accepted
 
-pub accepted : (w : World) → Sound w → (i : ℕ) → i ≤ 1 → (t : Ticket) (body : List ℕ) → step (complete i t body) w .event ≡ number 0
-    → (isProcess (phaseAt w i) ≡ true) × (t .0 ≡ slotAt (w .endpoint) i .ticket .0)
-unfolding step completed
-accepted w s i is t body e = into (phaseAt w i) (rw (right-stores w s, slot-yes i is) at e)
+pub accepted : (w : World) (i : ℕ) (t : Ticket) (c : Call) → Presents i t c → step c w .event ≡ number 0 → Match (w .endpoint) i t
+unfolding step completed wasDeclared
+accepted w i t c (completes body) e = by (same-number e)
   where
-    refused : {A : Type 0} (n : ℕ) → number (suc n) ≡ number 0 → A
-    refused n q = absurd (omega (arith, same n q))
-      where
-        same : (n : ℕ) → number (suc n) ≡ number 0 → suc n ≡ 0
-        same n q = cc
+    Says : Outcome → Type 0
+    Says o = o .answer ≡ 0 → Match (w .endpoint) i t
 
-    into : (p : Phase) → _≡_ {A = Event} (number (completedIn w i t body p .answer)) (number 0) → (isProcess p ≡ true) × (t .0 ≡ slotAt (w .endpoint) i .ticket .0)
-    into (Idle held) q = refused 30 q
-    into (Receive a) q = refused 30 q
-    into (Process r) q = (refl, go (isPresent t (slotAt (w .endpoint) i)) refl q)
-      where
-        go : (x : Bool) → isPresent t (slotAt (w .endpoint) i) ≡ x
-            → _≡_ {A = Event} (number ((if not x then outcome 32 w else completedRow w i r body (r .taking)) .answer)) (number 0) → t .0 ≡ slotAt (w .endpoint) i .ticket .0
-        go true f _ = eqb-true (t .0) (slotAt (w .endpoint) i .ticket .0) f
-        go false f z = refused 31 z
-    into (Answered r) q = refused 30 q
-    into (Transmit r) q = refused 30 q
+    by : Says (unfold completed in completed w i t body)
+    by =
+        unfold completed in
+        (if-ind Says (wrongStores w) (λ _ q. absurd (omega arith))
+        (λ _.
+        ticket-cases (λ (x : Presented). Says (completedBy w i body x)) (w .endpoint) i t (λ n d q. absurd (omega (arith, unmatched-least d)))
+        (λ k. if-ind Says (not (isBody body)) (λ _ q. absurd (omega arith)) (λ _ _. k))))
+accepted w i t c (declares can) e =
+    ticket-cases (λ (x : Presented). declaredBy (w .endpoint) i can x .answer ≡ 0 → Match (w .endpoint) i t) (w .endpoint) i t
+    (λ n d q. absurd (omega (arith, unmatched-least d))) (λ k _. k) (same-number e)
+
+in-process-now : {e : Endpoint} {i : ℕ} {t : Ticket} → Match e i t → isProcess (slotAt e i .phase) ≡ true
+in-process-now k = rw (k .in-process) refl
+
+pub accepted-process : (w : World) (i : ℕ) (t : Ticket) (body : List ℕ) → step (complete i t body) w .event ≡ number 0 → isProcess (phaseAt w i) ≡ true
+accepted-process w i t body e = in-process-now (accepted w i t (complete i t body) (completes body) e)
 
 pub transmitted-response : (p q : Phase) (v : Event) (l : Trace) → transmitted p q v l .response ≡ l .response
-transmitted-response p q v l =
-    if-ind (λ (m : Trace). m .response ≡ l .response) (not (isTransmit p) && isTransmit q) (λ _. refl)
-    (λ _. if-ind (λ (m : Trace). m .response ≡ l .response) (isPacketOf p q v) (λ _. refl) (λ _. refl))
+transmitted-response p q v l = sent-cases (λ (m : Trace). m .response ≡ l .response) p q v l refl (λ n s. refl)
 
 -- the response that it fixes
-pub completes : (h : History) (i : ℕ) (t : Ticket) (body : List ℕ) → step (complete i t body) (h .world) .event ≡ number 0
+pub completion : (h : History) (i : ℕ) (t : Ticket) (body : List ℕ) → step (complete i t body) (h .world) .event ≡ number 0
     → next (complete i t body) h .trace i .response ≡ responseFor i (h .trace i .request) body
 unfolding next
-completes h i t body e =
+completion h i t body e =
     transmitted-response (phaseAt (h .world) i) (phaseAt (step (complete i t body) (h .world) .world) i) (step (complete i t body) (h .world) .event)
     (commanded i (complete i t body) (h .world) (step (complete i t body) (h .world) .event) (h .trace i))
     ∙ go (step (complete i t body) (h .world) .event) e
@@ -229,15 +223,15 @@ completes h i t body e =
     go v k = rw (k, eq-eqb i i refl) refl
 
 -- the reading call hands back the request
-reads : (w : World) → Sound w → (i : ℕ) → i ≤ 1 → (r : Request) (l : Trace) → phaseAt w i ≡ Process (takenRequest r) → Fit (w .endpoint .unit) (slotAt (w .endpoint) i) (storeAt w i) l
-    → step (read i) w .event ≡ part-read (l .request)
+reads : (w : World) → Sound w → (i : ℕ) → i ≤ 1 → (r : Request) (can : Bool) (l : Trace) → phaseAt w i ≡ Process (takenRequest r can)
+    → Fit (w .endpoint .unit) (slotAt (w .endpoint) i) (storeAt w i) l → step (read i) w .event ≡ part-read (l .request)
 unfolding step part
-reads w s i is r l p f =
-    let k : Asked (takenRequest r) (storeAt w i) l = rw p at (f .phase-fits) in
+reads w s i is r can l p f =
+    let k : Asked (takenRequest r can) (storeAt w i) l = rw p at (f .phase-fits) in
     rw (right-stores w s, slot-yes i is, p) (ap part-read (k .held))
 
-pub answers-own : AnswersOwn
-answers-own eid unit store0 store1 a b xs i t e ys body hi done =
+pub ticket-own : TicketOwn
+ticket-own eid unit store0 store1 a b xs i t e ys hi call presents done =
     let h = run xs (start eid unit store0 store1) in
     let h₁ = next (take! i) h in
     let h₂ = run ys h₁ in
@@ -246,19 +240,23 @@ answers-own eid unit store0 store1 a b xs i t e ys body hi done =
     let g₂ = good-run ys h₁ g₁ in
     let k = gave (h .world) (g .sound) i t e in
     let is = k .slot-is in
-    let c = accepted (h₂ .world) (g₂ .sound) i is t body done in
+    let c = accepted (h₂ .world) i t call presents done in
     let n : h₁ .trace i .entries ≡ h .trace i .entries = take-entries h i in
     let since = since-run i is (h .trace i .entries) (h₁ .trace i .request) ys h₁ g₁ (record { grown = omega (arith, n); kept = λ _ _. refl }) in
     let mine : t .0 ≡ h .trace i .entries % 2 ^ 32 = ap (λ (x : Ticket). x .0) (k .ticket-is) ∙ g .fits i is .ticket-is in
     let same-count : h₂ .trace i .entries ≡ h .trace i .entries =
-    not-older (h .trace i .entries) (h₂ .trace i .entries) (since .grown) hi (sym mine ∙ c .1 ∙ g₂ .fits i is .ticket-is) in
-    let request-is : h₂ .trace i .request ≡ h₁ .trace i .request = since .kept same-count (c .0) in
+    not-older (h .trace i .entries) (h₂ .trace i .entries) (since .grown) hi (sym mine ∙ c .present ∙ g₂ .fits i is .ticket-is) in
     record {
       no-entry = same-count;
-      same-request = request-is;
-      read-request = reads (h₁ .world) (g₁ .sound) i is (k .request) (h₁ .trace i) (unfold next in (k .then-phase)) (g₁ .fits i is);
-      fixes = completes h₂ i t body done ∙ ap (λ (x : List ℕ). responseFor i x body) request-is;
+      same-request = since .kept same-count (in-process-now c);
+      read-request = reads (h₁ .world) (g₁ .sound) i is (k .request) false (h₁ .trace i) (unfold next in (k .then-phase)) (g₁ .fits i is);
     }
+
+pub answers-own : AnswersOwn
+answers-own eid unit store0 store1 a b xs i t e ys body hi done =
+    let h₁ = next (take! i) (run xs (start eid unit store0 store1)) in
+    let own = ticket-own eid unit store0 store1 a b xs i t e ys hi (complete i t body) (completes body) done in
+    record { command = own; fixes = completion (run ys h₁) i t body done ∙ ap (λ (x : List ℕ). responseFor i x body) (own .same-request) }
 
 -- ---- every packet that leaves
 

@@ -18,7 +18,7 @@ control-done = 2
 abbrev pub slot-not-idle : ℕ
 slot-not-idle = 20
 
--- ---- taking, completing, timeout, reset, setup
+-- ---- taking, completing, declaring, timeout, reset, setup
 
 abbrev pub done : ℕ
 done = 0

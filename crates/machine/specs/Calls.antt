@@ -7,7 +7,7 @@ use mathlib.Core.List.{List, [], _∷_}
 use lib.ListN.{take}
 use Rattle.machine.specs.State.{World, Outcome, ticket, world, withEndpoint}
 use Rattle.machine.specs.Receive.{received}
-use Rattle.machine.specs.Finish.{taken, takeSays, part, completed, timedOut, wasReset, wasSetUp}
+use Rattle.machine.specs.Finish.{taken, takeSays, part, completed, wasDeclared, timedOut, wasReset, wasSetUp}
 use Rattle.machine.specs.Poll.{Polled, pollSays, polled}
 use Rattle.machine.specs.Types.{Ticket, Done, TakeAnswer, TakeDone, PollAnswer}
 
@@ -19,6 +19,8 @@ pub data Call : Type 0 where
   read : ℕ → Call
   -- a slot number, a ticket, the body
   complete : ℕ → Ticket → List ℕ → Call
+  -- a slot number, a ticket, whether the taken command can still be stopped
+  declare : ℕ → Ticket → Bool → Call
   -- the lent buffer
   poll : List ℕ → Call
   timeout : ℕ → Call
@@ -30,6 +32,7 @@ ofCall received polled wasReset other (receive p) = received p
 ofCall received polled wasReset other (take! i) = other
 ofCall received polled wasReset other (read i) = other
 ofCall received polled wasReset other (complete i t body) = other
+ofCall received polled wasReset other (declare i t can) = other
 ofCall received polled wasReset other (poll buffer) = polled buffer
 ofCall received polled wasReset other (timeout i) = other
 ofCall received polled wasReset other reset = wasReset
@@ -81,11 +84,12 @@ byPoll w p = stepped (pollEvent (p .buffer) (p .answer)) (withEndpoint w (p .end
 -- ---- one call
 
 unfoldable pub step : Call → World → Stepped
-unfolding received taken part completed polled timedOut wasReset
+unfolding received taken part completed wasDeclared polled timedOut wasReset
 step (receive packet) w = byOutcome (received w packet)
 step (take! i) w = byTake w (taken (w .endpoint) i)
 step (read i) w = stepped (part-read (part w i)) w
 step (complete i t body) w = byOutcome (completed w i t body)
+step (declare i t can) w = byDone w (wasDeclared (w .endpoint) i t can)
 step (poll buffer) w = byPoll w (polled w buffer)
 step (timeout i) w = byDone w (timedOut (w .endpoint) i)
 step reset w = byDone w (wasReset (w .endpoint))

@@ -13,7 +13,7 @@ use Rattle.crc32c.specs.Crc32c.{crc32c}
 use Rattle.machine.specs.State.{World, slotAt, storeAt}
 use Rattle.machine.specs.Calls.{Call, receive, take!, read, complete, number, given, part-read, step}
 use Rattle.machine.specs.History.{Trace, History, phaseAt, isFor, requestWith, sourceOf, messageTagOf, kindOf, fixedAtEntry, cuts}
-use Rattle.machine.specs.Demands.{Every, isProcess}
+use Rattle.machine.specs.Demands.{Every, isProcess, Presents}
 use Rattle.machine.specs.Types.{Ticket, Untaken, Request, Process}
 
 -- "The last four bytes are CRC-32C of everything before them, low byte first": of a message of at least eight bytes
@@ -40,7 +40,7 @@ abbrev pub AcceptedRight : Type 0
 AcceptedRight =
     Every (λ h. (p : List ℕ) → step (receive p) (h .world) .event ≡ number 1 → Accepted (h .world) (h .trace) p (step (receive p) (h .world) .world))
 
--- the same command, perhaps taken: its sender, tag, NMIMT and length, its ticket, and the request at the store's front
+-- the same command, perhaps taken or with another mark: its sender, tag, NMIMT and length, its ticket, and the request at the store's front
 pub record SameCommand (h : History) (c : Call) (i : ℕ) (r : Request) : Type 0 where
   pub now : Request
   pub in-process : phaseAt (step c (h .world) .world) i ≡ Process now
@@ -63,8 +63,8 @@ CommandStays = Every (λ h. (c : Call) (i : ℕ) → i ≤ 1 → (r : Request) �
 pub record TakenOnce (h : History) (i : ℕ) : Type 0 where
   -- a take gives the ticket only if none did since the command came in
   pub once : (t : Ticket) → step (take! i) (h .world) .event ≡ given t → h .trace i .takes ≡ 0
-  -- a completion that is accepted had its take since then
-  pub first : (t : Ticket) (body : List ℕ) → step (complete i t body) (h .world) .event ≡ number 0 → h .trace i .takes ≡ 1
+  -- a completion or a declaration that is accepted had its take since then
+  pub first : (t : Ticket) (c : Call) → Presents i t c → step c (h .world) .event ≡ number 0 → h .trace i .takes ≡ 1
   -- reading gives the request while the command is taken and not completed, and nothing else
   pub reads : step (read i) (h .world) .event ≡ part-read (if ltb i 2 && (isProcess (phaseAt (h .world) i) && eqb (h .trace i .takes) 1) then h .trace i .request else [])
 

@@ -46,12 +46,12 @@ resumedSlot s = slot (s .ticket) false (s .busy) (released (s .phase))
 unfoldable pub resume : Endpoint → Endpoint
 resume e = onBoth resumedSlot e
 
--- ---- Abort (2): its slot goes to Idle. CPSR: Idle 0, Receive 1, Process untaken 1, Process taken 2, Process with its response there 0,
--- Transmit 0.
+-- ---- Abort (2): its slot goes to Idle. CPSR: Idle 0, Receive 1, Process untaken 1, Process taken 1 if it can still be stopped and else 2 (of
+-- document 02), Process with its response there 0, Transmit 0.
 
 abbrev pub takenWord : Taking → ℕ
 takenWord Untaken = 1
-takenWord Taken = 2
+takenWord (Taken can) = if can then 1 else 2
 
 abbrev pub abortWord : Phase → ℕ
 abortWord (Idle k) = 0

@@ -1,5 +1,5 @@
 -- Demands 2 and 3 as statements about lists of calls. Their proofs: `demand-3`, `at-most`, `quoted` (proofs/Delivery), `answer-arrives`, `error-arrives`
--- (proofs/Arrives), `ticket-count`, `ticket-rule`, `answers-own`, `answer-belongs`, `pauses-hold`, `flags-fit` (proofs/Tickets),
+-- (proofs/Arrives), `ticket-count`, `ticket-rule`, `ticket-own`, `answers-own`, `answer-belongs`, `pauses-hold`, `flags-fit` (proofs/Tickets),
 -- `abort-idles` (proofs/Replies), `always-sound` (proofs/Histories), `identity-kept` (proofs/Identity).
 -- Assumes nothing.
 use Prim.Native.Nat.{ℕ, _+_, _*_, _%_, _^_, _≤_, _<_}
@@ -12,9 +12,9 @@ use Rattle.lent.specs.Choice.{if_then_else_}
 use Rattle.mctp.specs.Setup.{setupNumber}
 use Rattle.mctp.specs.Cut.{packet}
 use Rattle.mctp.specs.declared.Route.{Route}
-use Rattle.machine.specs.State.{slotAt}
+use Rattle.machine.specs.State.{World, slotAt}
 use Rattle.machine.specs.Valid.{phased, Sound}
-use Rattle.machine.specs.Calls.{Call, receive, take!, read, complete, poll, number, given, part-read, handed-out, step}
+use Rattle.machine.specs.Calls.{Call, receive, take!, read, complete, declare, poll, number, given, part-read, handed-out, step}
 use Rattle.machine.specs.History.{History, phaseAt, pausedAt, isTransmit, isFor, requestWith, responseFor, fixedAtEntry, isPacketOf, unitOf, next, run, start, cuts, overUnit, packetsLeft, lastPacketOut}
 use Rattle.machine.specs.Types.{Ticket, NoResponse, Phase, Idle, Endpoint}
 
@@ -103,23 +103,44 @@ TicketCount = Every (λ h. (i : ℕ) → i ≤ 1 → slotAt (h .world .endpoint)
 abbrev pub isProcess : Phase → Bool
 isProcess = phased false (λ a. false) (λ r. true) (λ r. false) (λ r. false)
 
--- a ticket that a take gave, with at least one and fewer than 2^32 entries since: completing with it is refused, 32 where a command is in
--- Process there, and 31 else
+-- the calls that present a ticket for slot i
+pub data Presents (i : ℕ) (t : Ticket) : Call → Type 0 where
+  completes : (body : List ℕ) → Presents i t (complete i t body)
+  declares : (can : Bool) → Presents i t (declare i t can)
+
+-- a call for slot i is refused because of its ticket: 32 where a command is in Process there, and 31 else; and nothing changes
+pub record TicketRefused (w : World) (i : ℕ) (c : Call) : Type 0 where
+  pub answered : step c w .event ≡ number (if isProcess (phaseAt w i) then 32 else 31)
+  pub unchanged : step c w .world ≡ w
+
+-- a ticket that a take gave, with at least one and fewer than 2^32 entries since: completing with it and declaring with it are refused
 abbrev pub TicketRule : Type 0
 TicketRule =
-    Every (λ h. (i : ℕ) (t : Ticket) → step (take! i) (h .world) .event ≡ given t → (ys : List Call) (body : List ℕ)
+    Every (λ h. (i : ℕ) (t : Ticket) → step (take! i) (h .world) .event ≡ given t → (ys : List Call)
     → h .trace i .entries < run ys (next (take! i) h) .trace i .entries
     → run ys (next (take! i) h) .trace i .entries < h .trace i .entries + 2 ^ 32
-    → step (complete i t body) (run ys (next (take! i) h) .world) .event ≡ number (if isProcess (phaseAt (run ys (next (take! i) h) .world) i) then 32 else 31))
+    → (c : Call) → Presents i t c → TicketRefused (run ys (next (take! i) h) .world) i c)
 
--- what a completion that is accepted answers is the command that the take of its ticket handed over
-pub record Own (h later : History) (i : ℕ) (t : Ticket) (body : List ℕ) : Type 0 where
+-- the command that is there later is the one that a take handed over before
+pub record OwnCommand (h later : History) (i : ℕ) : Type 0 where
   -- no command of the slot came in between
   pub no-entry : later .trace i .entries ≡ h .trace i .entries
   -- the request is the one that was read after the take
   pub same-request : later .trace i .request ≡ next (take! i) h .trace i .request
   pub read-request : step (read i) (next (take! i) h .world) .event ≡ part-read (next (take! i) h .trace i .request)
-  -- and the response that is fixed now is that command's
+
+-- where completing or declaring with a ticket is accepted, it is for the command that the take of that ticket handed over
+abbrev pub TicketOwn : Type 0
+TicketOwn =
+    Every (λ h. (i : ℕ) (t : Ticket) → step (take! i) (h .world) .event ≡ given t → (ys : List Call)
+    → run ys (next (take! i) h) .trace i .entries < h .trace i .entries + 2 ^ 32
+    → (c : Call) → Presents i t c → step c (run ys (next (take! i) h) .world) .event ≡ number 0
+    → OwnCommand h (run ys (next (take! i) h)) i)
+
+-- what a completion that is accepted answers is that command
+pub record Own (h later : History) (i : ℕ) (t : Ticket) (body : List ℕ) : Type 0 where
+  pub command : OwnCommand h later i
+  -- the response that is fixed now is its response
   pub fixes : next (complete i t body) later .trace i .response ≡ responseFor i (next (take! i) h .trace i .request) body
 
 abbrev pub AnswersOwn : Type 0

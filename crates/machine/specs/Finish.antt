@@ -1,4 +1,4 @@
--- "Taking and finishing", timeout, reset and setup.
+-- "Taking and finishing" with document 02's declaring, timeout, reset and setup.
 -- Assumes nothing.
 use Prim.Native.Nat.{ℕ, _^_}
 use mathlib.Core.Bool.{Bool, true, false, not, _||_}
@@ -12,7 +12,7 @@ use Rattle.machine.specs.State.{World, Outcome, outcome, ended, slotAt, 
 use Rattle.machine.specs.Wire.{wrongStores}
 use Rattle.machine.specs.Process.{responded}
 use Rattle.machine.specs.Receive.{raised}
-use Rattle.machine.specs.Types.{Ticket, Taking, Untaken, Taken, Request, Phase, Idle, Receive, Process, Answered, Transmit, Slot, Endpoint, Done, TakeAnswer, TakeDone}
+use Rattle.machine.specs.Types.{Ticket, Taking, Untaken, Taken, Request, Phase, Idle, Receive, Process, Answered, Transmit, Slot, Endpoint, Done, TakeAnswer, TakeDone, Presented, Unmatched, Matched}
 use Rattle.machine.specs.declared.TakeAnswer.the-variants.{Refused, Given}
 
 abbrev pub isSlot : ℕ → Bool
@@ -23,12 +23,18 @@ isSlot i = ltb i 2
 abbrev pub takeEnded : TakeAnswer → Endpoint → TakeDone
 takeEnded a e = record { answer = a; endpoint = e }
 
-abbrev pub takenRequest : Request → Request
-takenRequest r = record { source = r .source; tag = r .tag; kind = r .kind; length = r .length; taking = Taken }
+-- the taken command; the mark says whether it can still be stopped
+abbrev pub takenRequest : Request → Bool → Request
+takenRequest r can = record { source = r .source; tag = r .tag; kind = r .kind; length = r .length; taking = Taken can }
 
+-- slot i's command, taken and with this mark, all else as it was
+abbrev pub withMark : Endpoint → ℕ → Request → Bool → Endpoint
+withMark e i r can = withSlot e i (withPhase (slotAt e i) (Process (takenRequest r can)))
+
+-- taking starts at "can't"
 abbrev pub takenRow : Endpoint → ℕ → Request → Taking → TakeDone
-takenRow e i r Untaken = takeEnded (Given (slotAt e i .ticket)) (withSlot e i (withPhase (slotAt e i) (Process (takenRequest r))))
-takenRow e i r Taken = takeEnded (Refused taken-already) e
+takenRow e i r Untaken = takeEnded (Given (slotAt e i .ticket)) (withMark e i r false)
+takenRow e i r (Taken can) = takeEnded (Refused taken-already) e
 
 abbrev pub takenFrom : Endpoint → ℕ → Phase → TakeDone
 takenFrom e i (Idle k) = takeEnded (Refused no-command) e
@@ -52,7 +58,7 @@ takeSays (Given t) = (done, t .0 ∷ [])
 
 abbrev pub takenPart : List ℕ → Request → Taking → List ℕ
 takenPart store r Untaken = []
-takenPart store r Taken = take (r .length) store
+takenPart store r (Taken can) = take (r .length) store
 
 abbrev pub partOf : List ℕ → Phase → List ℕ
 partOf store (Idle k) = []
@@ -67,36 +73,57 @@ part w i =
     else if not (isSlot i) then []
     else partOf (storeAt w i) (slotAt (w .endpoint) i .phase)
 
--- ---- completing: 30; 31; 32 ticket not the slot's present one; 34 not taken; 35 body not 4 to 4,216 bytes. In that order, else 0.
-
-abbrev pub isBody : List ℕ → Bool
-isBody body = not (ltb (length body) 4 || ltb 4216 (length body))
+-- ---- a ticket that is presented for a slot, the tests of completing and of declaring: 30; 31; 32 ticket not the slot's present one; 34 not
+-- taken. In that order, else the taken command.
 
 -- the ticket is the slot's present one
 abbrev pub isPresent : Ticket → Slot → Bool
 isPresent t s = eqb (t .0) (s .ticket .0)
 
-abbrev pub completedRow : World → ℕ → Request → List ℕ → Taking → Outcome
-completedRow w i r body Untaken = outcome not-taken w
-completedRow w i r body Taken =
+abbrev pub presentedRow : Request → Taking → Presented
+presentedRow r Untaken = Unmatched not-taken
+presentedRow r (Taken can) = Matched r
+
+abbrev pub presentedIn : Ticket → Slot → Phase → Presented
+presentedIn t s (Idle k) = Unmatched no-command
+presentedIn t s (Receive a) = Unmatched no-command
+presentedIn t s (Process r) =
+    if not (isPresent t s) then Unmatched other-ticket
+    else presentedRow r (r .taking)
+presentedIn t s (Answered r) = Unmatched no-command
+presentedIn t s (Transmit r) = Unmatched no-command
+
+unfoldable pub presented : Endpoint → ℕ → Ticket → Presented
+presented e i t =
+    if not (isSlot i) then Unmatched no-such-slot
+    else presentedIn t (slotAt e i) (slotAt e i .phase)
+
+-- ---- completing: the tests above; 35 body not 4 to 4,216 bytes; else 0
+
+abbrev pub isBody : List ℕ → Bool
+isBody body = not (ltb (length body) 4 || ltb 4216 (length body))
+
+abbrev pub completedBy : World → ℕ → List ℕ → Presented → Outcome
+completedBy w i body (Unmatched n) = outcome n w
+completedBy w i body (Matched r) =
     if not (isBody body) then outcome wrong-body-size w
     else outcome done (responded w i r body)
 
-abbrev pub completedIn : World → ℕ → Ticket → List ℕ → Phase → Outcome
-completedIn w i t body (Idle k) = outcome no-command w
-completedIn w i t body (Receive a) = outcome no-command w
-completedIn w i t body (Process r) =
-    if not (isPresent t (slotAt (w .endpoint) i)) then outcome other-ticket w
-    else completedRow w i r body (r .taking)
-completedIn w i t body (Answered r) = outcome no-command w
-completedIn w i t body (Transmit r) = outcome no-command w
-
 unfoldable pub completed : World → ℕ → Ticket → List ℕ → Outcome
-unfolding responded
+unfolding responded presented
 completed w i t body =
     if wrongStores w then outcome wrong-stores w
-    else if not (isSlot i) then outcome no-such-slot w
-    else completedIn w i t body (slotAt (w .endpoint) i .phase)
+    else completedBy w i body (presented (w .endpoint) i t)
+
+-- ---- declaring, of document 02: "with slot and ticket, that the taken command can still be stopped, or no longer can"; the tests above, else 0
+
+abbrev pub declaredBy : Endpoint → ℕ → Bool → Presented → Done
+declaredBy e i can (Unmatched n) = ended n e
+declaredBy e i can (Matched r) = ended done (withMark e i r can)
+
+unfoldable pub wasDeclared : Endpoint → ℕ → Ticket → Bool → Done
+unfolding presented
+wasDeclared e i t can = declaredBy e i can (presented e i t)
 
 -- ---- timeout: 30; 37 slot not in Receive or its flag is set; else Idle, bit 5, answer 0
 

@@ -10,7 +10,7 @@ use Rattle.lent.specs.Choice.{if_then_else_}
 use Rattle.lent.specs.Bytes.{byteAt, isSet}
 use Rattle.nvme_mi.specs.Check.{checkRight, withCheck}
 use Rattle.machine.specs.State.{World, slotAt}
-use Rattle.machine.specs.Calls.{Call, receive, take!, read, complete, poll, timeout, reset, ofCall, Event, number, given, part-read, handed-out, Stepped, step, begin}
+use Rattle.machine.specs.Calls.{Call, receive, take!, read, complete, declare, poll, timeout, reset, ofCall, Event, number, given, part-read, handed-out, Stepped, step, begin}
 use Rattle.machine.specs.Valid.{phased, allOf}
 use Rattle.machine.specs.Types.{Phase}
 
@@ -61,9 +61,11 @@ pub record Trace : Type 0 where
   pub entries : ℕ
   -- takes since the last entry that gave a ticket
   pub takes : ℕ
+  -- what was declared last since that take: whether the command can still be stopped. Where nothing was, it can't.
+  pub stoppable : Bool
 
-abbrev pub traceOf : List ℕ → ℕ → ℕ → List ℕ → ℕ → List ℕ → ℕ → ℕ → Trace
-traceOf request requester tag response packets payloads entries takes =
+abbrev pub traceOf : List ℕ → ℕ → ℕ → List ℕ → ℕ → List ℕ → ℕ → ℕ → Bool → Trace
+traceOf request requester tag response packets payloads entries takes stoppable =
     record {
       request = request;
       requester = requester;
@@ -73,20 +75,21 @@ traceOf request requester tag response packets payloads entries takes =
       payloads = payloads;
       entries = entries;
       takes = takes;
+      stoppable = stoppable;
     }
 
 abbrev pub withRequest : Trace → List ℕ → Trace
-withRequest l request = traceOf request (l .requester) (l .tag) (l .response) (l .packets) (l .payloads) (l .entries) (l .takes)
+withRequest l request = traceOf request (l .requester) (l .tag) (l .response) (l .packets) (l .payloads) (l .entries) (l .takes) (l .stoppable)
 
 abbrev pub withResponse : Trace → List ℕ → Trace
-withResponse l response = traceOf (l .request) (l .requester) (l .tag) response (l .packets) (l .payloads) (l .entries) (l .takes)
+withResponse l response = traceOf (l .request) (l .requester) (l .tag) response (l .packets) (l .payloads) (l .entries) (l .takes) (l .stoppable)
 
-abbrev pub withTakes : Trace → ℕ → Trace
-withTakes l takes = traceOf (l .request) (l .requester) (l .tag) (l .response) (l .packets) (l .payloads) (l .entries) takes
+abbrev pub withTakes : Trace → ℕ → Bool → Trace
+withTakes l takes stoppable = traceOf (l .request) (l .requester) (l .tag) (l .response) (l .packets) (l .payloads) (l .entries) takes stoppable
 
 -- so many packets of the slot went, with these payloads
 abbrev pub sending : Trace → ℕ → List ℕ → Trace
-sending l packets payloads = traceOf (l .request) (l .requester) (l .tag) (l .response) packets payloads (l .entries) (l .takes)
+sending l packets payloads = traceOf (l .request) (l .requester) (l .tag) (l .response) packets payloads (l .entries) (l .takes) (l .stoppable)
 
 -- ---- a command's packet: one that receiving answered with 0, more to come, or 1, command complete
 
@@ -125,15 +128,19 @@ fixedAtEntry i request =
 -- slot i enters Process with this packet
 abbrev pub entering : ℕ → List ℕ → Trace → Trace
 entering i p l =
-    traceOf (requestWith p l) (sourceOf p) (messageTagOf p) (fixedAtEntry i (requestWith p l)) (l .packets) (l .payloads) (l .entries + 1) 0
+    traceOf (requestWith p l) (sourceOf p) (messageTagOf p) (fixedAtEntry i (requestWith p l)) (l .packets) (l .payloads) (l .entries + 1) 0 false
 
 -- "Else it is [..] the body with which that command was completed"
 abbrev pub completing : ℕ → List ℕ → Trace → Trace
 completing i body l = withResponse l (responseFor i (l .request) body)
 
--- a take gave the command's ticket
+-- a take gave the command's ticket; nothing is declared of it yet
 abbrev pub taking : Trace → Trace
-taking l = withTakes l (l .takes + 1)
+taking l = withTakes l (l .takes + 1) false
+
+-- it was declared of the taken command whether it can still be stopped
+abbrev pub declaring : Bool → Trace → Trace
+declaring can l = withTakes l (l .takes) can
 
 abbrev pub byNumber : {A : Type 0} → (ℕ → A) → A → Event → A
 byNumber f a (number n) = f n
@@ -154,6 +161,7 @@ commanded i (receive p) w v l =
 commanded i (take! j) w v l = byTicket (if eqb j i then taking l else l) l v
 commanded i (read j) w v l = l
 commanded i (complete j t body) w v l = byNumber (λ n. if eqb n 0 && eqb j i then completing i body l else l) l v
+commanded i (declare j t can) w v l = byNumber (λ n. if eqb n 0 && eqb j i then declaring can l else l) l v
 commanded i (poll buffer) w v l = l
 commanded i (timeout j) w v l = l
 commanded i reset w v l = l
@@ -233,7 +241,7 @@ unfolding begin
 start eid unit store0 store1 =
     record {
       world = begin eid unit store0 store1;
-      trace = λ i. traceOf [] 0 0 [] 0 [] 0 0;
+      trace = λ i. traceOf [] 0 0 [] 0 [] 0 0 false;
       counted = 0;
     }
 

@@ -20,3 +20,4 @@ pub mod Grounds
 pub mod Replies
 pub mod Gathering
 pub mod Replays
+pub mod Stopping

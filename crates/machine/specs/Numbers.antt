@@ -1,6 +1,6 @@
--- Taking, completing, timeout, polling and setup in document 01's numbers: which number is answered on which ground, and the value beside
--- it. Numbers and sizes are literal, so that the definitions that give an enum its number are held against them too. The proofs:
--- `take-numbers`, `complete-numbers`, `timeout-numbers`, `poll-numbers`, `setup-numbers` (proofs/Numbers).
+-- Taking, completing, declaring, timeout, polling and setup in document 01's numbers: which number is answered on which ground, and the value
+-- beside it. Numbers and sizes are literal, so that the definitions that give an enum its number are held against them too. The proofs:
+-- `take-numbers`, `complete-numbers`, `declare-numbers`, `timeout-numbers`, `poll-numbers`, `setup-numbers` (proofs/Numbers).
 -- Assumes nothing.
 use Prim.Native.Nat.{ℕ, _+_}
 use mathlib.Core.Path.{_≡_}
@@ -11,7 +11,7 @@ use lib.ListN.{length}
 use Rattle.lent.specs.Choice.{if_then_else_}
 use Rattle.mctp.specs.Setup.{setupNumber}
 use Rattle.machine.specs.State.{World, slotAt}
-use Rattle.machine.specs.Finish.{taken, takeSays, completed, timedOut, wasSetUp}
+use Rattle.machine.specs.Finish.{taken, takeSays, completed, wasDeclared, timedOut, wasSetUp}
 use Rattle.machine.specs.Poll.{pollSays, polled}
 use Rattle.machine.specs.Valid.{phased, Valid}
 use Rattle.machine.specs.Calls.{poll, Event, number, given, part-read, handed-out, step}
@@ -22,7 +22,7 @@ use Rattle.machine.specs.Types.{Ticket, Taking, Untaken, Taken, Phase, E
 
 abbrev pub isTaken : Taking → Bool
 isTaken Untaken = false
-isTaken Taken = true
+isTaken (Taken can) = true
 
 abbrev pub takeNumbers : Endpoint → ℕ → ℕ × List ℕ
 takeNumbers e i =
@@ -32,30 +32,43 @@ takeNumbers e i =
 abbrev pub TakeNumbers : Type 0
 TakeNumbers = (e : Endpoint) (i : ℕ) → takeSays (taken e i .answer) ≡ takeNumbers e i
 
--- ---- completing: 40 stores of another length; 30; 31; 32 ticket not the slot's present one; 34 not taken; 35 body not 4 to 4,216 bytes; else 0
-
-abbrev pub rightSizes : World → Bool
-rightSizes w = eqb (length (w .store0)) 4224 && eqb (length (w .store1)) 4224
+-- ---- a ticket that is presented for a slot: 30 slot above 1; 31 not in Process, or its response is there; 32 ticket not the slot's present
+-- one; 34 not taken; else 0
 
 -- of a slot in this phase, whose present ticket is given
-abbrev pub completeIn : ℕ → Ticket → List ℕ → Phase → ℕ
-completeIn present t body =
+abbrev pub ticketIn : ℕ → Ticket → Phase → ℕ
+ticketIn present t =
     phased 31 (λ a. 31)
     (λ r.
     if not (eqb (t .0) present) then 32
     else if not (isTaken (r .taking)) then 34
-    else if ltb (length body) 4 || ltb 4216 (length body) then 35
     else 0)
     (λ r. 31) (λ r. 31)
+
+abbrev pub ticketNumber : Endpoint → ℕ → Ticket → ℕ
+ticketNumber e i t =
+    if ltb 1 i then 30
+    else ticketIn (slotAt e i .ticket .0) t (slotAt e i .phase)
+
+-- ---- completing: 40 stores of another length; the tests of the ticket; 35 body not 4 to 4,216 bytes; else 0
+
+abbrev pub rightSizes : World → Bool
+rightSizes w = eqb (length (w .store0)) 4224 && eqb (length (w .store1)) 4224
 
 abbrev pub completeNumber : World → ℕ → Ticket → List ℕ → ℕ
 completeNumber w i t body =
     if not (rightSizes w) then 40
-    else if ltb 1 i then 30
-    else completeIn (slotAt (w .endpoint) i .ticket .0) t body (phaseAt w i)
+    else if not (eqb (ticketNumber (w .endpoint) i t) 0) then ticketNumber (w .endpoint) i t
+    else if ltb (length body) 4 || ltb 4216 (length body) then 35
+    else 0
 
 abbrev pub CompleteNumbers : Type 0
 CompleteNumbers = (w : World) (i : ℕ) (t : Ticket) (body : List ℕ) → completed w i t body .answer ≡ completeNumber w i t body
+
+-- ---- declaring: the tests of the ticket and no other; else 0
+
+abbrev pub DeclareNumbers : Type 0
+DeclareNumbers = (e : Endpoint) (i : ℕ) (t : Ticket) (can : Bool) → wasDeclared e i t can .answer ≡ ticketNumber e i t
 
 -- ---- timeout: 30; 37 slot not in Receive or its flag is set; else 0
 

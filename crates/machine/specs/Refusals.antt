@@ -12,7 +12,7 @@ use Rattle.lent.specs.Choice.{if_then_else_}
 use Rattle.lent.specs.Bytes.{byteAt, put}
 use Rattle.machine.specs.State.{World, slotAt, storeAt, withEndpoint, withStore, withFlags, onSlot, onBoth}
 use Rattle.machine.specs.Receive.{flagOf, received}
-use Rattle.machine.specs.Calls.{Call, receive, take!, read, complete, poll, timeout, reset, number, step}
+use Rattle.machine.specs.Calls.{Call, receive, take!, read, complete, declare, poll, timeout, reset, number, step}
 use Rattle.machine.specs.Valid.{Valid, Sound, phased}
 use Rattle.machine.specs.History.{hasSom, sourceOf, messageTagOf, bytesFrom4, phaseAt, receivesFrom, isFor, kindOf}
 use Rattle.machine.specs.Numbers.{rightSizes}
@@ -94,6 +94,7 @@ isLent (receive p) = true
 isLent (take! i) = false
 isLent (read i) = false
 isLent (complete i t body) = true
+isLent (declare i t can) = false
 isLent (poll buffer) = true
 isLent (timeout i) = false
 isLent reset = false
@@ -113,6 +114,7 @@ answers (receive p) = 0 ∷ 1 ∷ 2 ∷ 10 ∷ 11 ∷ 12 ∷ 13 ∷ 14 ∷ 15 �
 answers (take! i) = 30 ∷ 31 ∷ 33 ∷ []
 answers (read i) = []
 answers (complete i t body) = 0 ∷ 30 ∷ 31 ∷ 32 ∷ 34 ∷ 35 ∷ 40 ∷ []
+answers (declare i t can) = 0 ∷ 30 ∷ 31 ∷ 32 ∷ 34 ∷ []
 answers (poll buffer) = 0 ∷ 36 ∷ 40 ∷ []
 answers (timeout i) = 0 ∷ 30 ∷ 37 ∷ []
 answers reset = 0 ∷ []

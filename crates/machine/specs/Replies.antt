@@ -56,9 +56,10 @@ worth b n = if b then n else 0
 
 abbrev pub abortedProcess : Taking → ℕ
 abortedProcess Untaken = 1
-abortedProcess Taken = 2
+abortedProcess (Taken true) = 1
+abortedProcess (Taken false) = 2
 
--- Abort: Idle 0, Receive 1, Process untaken 1, Process taken 2, Process with its response there 0, Transmit 0
+-- Abort: Idle 0, Receive 1, Process untaken 1, Process taken 1 if it can still be stopped and else 2, Process with its response there 0, Transmit 0
 abbrev pub abortedIn : Phase → ℕ
 abortedIn = phased 0 (λ a. 1) (λ r. abortedProcess (r .taking)) (λ r. 0) (λ r. 0)
 

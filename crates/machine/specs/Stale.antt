@@ -1,30 +1,35 @@
 -- "A result whose ticket is not the slot's present one never leaves the board": demand 2's sentence over lists of calls. The proofs:
--- `stale-refused`, `never-stale` (proofs/Stale).
+-- `stale-refused`, `cut-stays`, `never-stale` (proofs/Stale).
 -- Assumes nothing.
-use Prim.Native.Nat.{ℕ, _+_, _≤_}
+use Prim.Native.Nat.{ℕ, _+_, _^_, _≤_, _<_}
 use mathlib.Core.Path.{_≡_}
 use mathlib.Core.Bool.{true}
 use mathlib.Core.List.{List, [], _∷_, _++_}
 use lib.ListN.{length}
-use Rattle.lent.specs.Choice.{if_then_else_}
 use Rattle.mctp.specs.Cut.{packet}
 use Rattle.machine.specs.State.{slotAt}
 use Rattle.machine.specs.Calls.{Call, receive, complete, poll, number, handed-out, step}
-use Rattle.machine.specs.History.{History, phaseAt, isFor, requestWith, responseFor, fixedAtEntry, isPacketOf, unitOf, run, start}
-use Rattle.machine.specs.Demands.{Every, isProcess, routeOf}
+use Rattle.machine.specs.History.{History, phaseAt, isFor, requestWith, responseFor, fixedAtEntry, isPacketOf, unitOf, next, run, start, cuts}
+use Rattle.machine.specs.Demands.{Every, Presents, TicketRefused, routeOf}
 use Rattle.machine.specs.Types.{Ticket}
 
 -- the slot's present ticket
 abbrev pub presentTicket : History → ℕ → ℕ
 presentTicket h i = slotAt (h .world .endpoint) i .ticket .0
 
--- any ticket but the present one, whoever made it up: completing with it is refused, 32 where a command is in Process there and 31 else, and
--- nothing changes
+-- any ticket but the present one, whoever made it up: completing with it and declaring with it are refused, 32 where a command is in Process
+-- there and 31 else, and nothing changes
 abbrev pub StaleRefused : Type 0
-StaleRefused =
-    Every (λ h. (i : ℕ) → i ≤ 1 → (t : Ticket) (body : List ℕ) → (t .0 ≡ presentTicket h i → ⊥)
-    → (step (complete i t body) (h .world) .event ≡ number (if isProcess (phaseAt (h .world) i) then 32 else 31))
-    × (step (complete i t body) (h .world) .world ≡ h .world))
+StaleRefused = Every (λ h. (i : ℕ) → i ≤ 1 → (t : Ticket) → (t .0 ≡ presentTicket h i → ⊥) → (c : Call) → Presents i t c → TicketRefused (h .world) i c)
+
+-- A COMMAND THAT WAS CUT OFF STAYS SO. From an Abort that acts on its slot or a reset on, as long as fewer than 2^32 commands of the slot have come
+-- in since, completing and declaring with its ticket are refused and change nothing. So drive software that begins only once "no longer can be
+-- stopped" was answered 0 never begins a command that an Abort told as stopped.
+abbrev pub CutStays : Type 0
+CutStays =
+    Every (λ h. (cut : Call) (i : ℕ) → i ≤ 1 → cuts i cut (h .world) ≡ true → (ys : List Call)
+    → run ys (next cut h) .trace i .entries < h .trace i .entries + 2 ^ 32
+    → (t : Ticket) → t .0 ≡ presentTicket h i → (c : Call) → Presents i t c → TicketRefused (run ys (next cut h) .world) i c)
 
 -- what fixed the response of slot i that is there after the calls xs
 pub data FixedBy (first : History) (i : ℕ) (xs : List Call) : Type 0 where

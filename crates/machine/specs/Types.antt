@@ -16,6 +16,8 @@ pub use Rattle.machine.specs.declared.Endpoint.{Endpoint}
 pub use Rattle.machine.specs.declared.Done.{Done}
 pub use Rattle.machine.specs.declared.TakeAnswer.{TakeAnswer}
 pub use Rattle.machine.specs.declared.TakeDone.{TakeDone}
+pub use Rattle.machine.specs.declared.Presented.{Presented}
+pub use Rattle.machine.specs.declared.Presented.the-variants.{Unmatched, Matched}
 pub use Rattle.machine.specs.declared.PollAnswer.{PollAnswer}
 pub use Rattle.machine.specs.declared.Holder.{Holder}
 pub use Rattle.machine.specs.declared.Holder.the-variants.{Nowhere, At}

@@ -28,7 +28,7 @@ pub const SLOT_NOT_IDLE: u8 = 20;
 pub use mctp::WRONG_EID;
 pub use mctp::WRONG_UNIT;
 
-// ---- Taking, completing, timeout, reset.
+// ---- Taking, completing, declaring, timeout, reset.
 pub const DONE: u8 = 0;
 
 pub const NO_SUCH_SLOT: u8 = 30;

@@ -18,10 +18,11 @@ pub struct Assembly {
     pub length: usize,
 }
 
-// Whether the drive's software has taken a command.
+// Whether the drive's software has taken a command. A taken one has the mark whether it can still be stopped, as declared last; no other command
+// has a mark.
 pub enum Taking {
     Untaken,
-    Taken,
+    Taken(bool),
 }
 
 // A command that awaits its response: its NMIMT (`kind`), and its length with the check.
@@ -100,6 +101,12 @@ pub enum TakeAnswer {
 pub struct TakeDone {
     pub answer: TakeAnswer,
     pub endpoint: Endpoint,
+}
+
+// A ticket that is presented for a slot, in completing and in declaring: refused by number, or the taken command that it belongs to.
+pub enum Presented {
+    Unmatched(u8),
+    Matched(Request),
 }
 
 // Polling: refused by number, nothing to send, or a packet of this length at the buffer's front.

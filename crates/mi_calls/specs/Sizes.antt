@@ -24,4 +24,5 @@ leastSize tag =
     else if eqb tag 36 then 12
     else if eqb tag 37 then 0
     else if eqb tag 38 then 0
+    else if eqb tag 48 then 9
     else 1

@@ -41,11 +41,15 @@ fn check_words(on: bool, name: &[u8], store: &[u8]) -> bool {
 fn taking_words(on: bool, taking: Taking) -> bool {
     match taking {
         Taking::Untaken => say(on, b":untaken"),
-        Taking::Taken => say(on, b":taken"),
+        Taking::Taken(can) => if can {
+            say(on, b":can")
+        } else {
+            say(on, b":taken")
+        },
     }
 }
 
-// A command: from whom, under which tag, its kind and length, and whether it was taken.
+// A command: from whom, under which tag, its kind and length, whether it was taken, and then whether it can still be stopped.
 fn request_words(on: bool, r: Request) -> bool {
     let on = three(on, b"process:", byte(r.source), byte(r.tag), byte(r.kind));
     let taking = r.taking;

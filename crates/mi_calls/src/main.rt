@@ -24,6 +24,7 @@ use record::called;
 use requester_record::requester_called;
 use tags::REQUESTER_STORE;
 use tags::STORES;
+use tags::is_no_mark;
 use tags::is_record;
 use tags::is_requesters;
 use words::half;
@@ -33,6 +34,9 @@ const HEAD_SIZE: usize = 3;
 
 // The memory of a store, whose front is lent.
 const MEMORY: usize = 4300;
+
+// Where a declaration has its mark, behind slot and ticket.
+const MARK: usize = 8;
 
 // The EID of the endpoint and of the requester at the start.
 const EID: u8 = 8;
@@ -169,6 +173,10 @@ fn next_record(space: &mut [u8]) -> Next
     let more = filled(&mut space[..size]);
     if more.count < size {
         broken(more.failed);
+        return none();
+    }
+    if is_no_mark(tag, space[MARK]) {
+        broken(false);
         return none();
     }
     Next {

@@ -15,6 +15,7 @@ use crate::line::number;
 use crate::line::say;
 use crate::look::look;
 use crate::tags::COMPLETE;
+use crate::tags::DECLARE;
 use crate::tags::LOOK;
 use crate::tags::POLL;
 use crate::tags::READ;
@@ -102,6 +103,15 @@ fn completed(endpoint: Endpoint, store0: &mut [u8], store1: &mut [u8], body: &[u
     endpoint::complete(endpoint, store0, store1, slot, ticket, &body[8..])
 }
 
+fn declared(endpoint: Endpoint, body: &[u8]) -> Done
+    requires { ⌜ Valid endpoint × (9 ≤ length (now body)) ⌝ }
+    ensures { λ r. ⌜ Valid (r .endpoint) ⌝ }
+{
+    let slot = word(body, 0);
+    let ticket = Ticket(word(body, 4) as u32);
+    endpoint::declare(endpoint, slot, ticket, body[8] == 1)
+}
+
 // The calls that answer by number.
 fn numbered(endpoint: Endpoint, store0: &mut [u8], store1: &mut [u8], tag: u8, body: &[u8]) -> Done
     requires { ⌜ Valid endpoint × (leastSize tag ≤ length (now body)) ⌝ }
@@ -115,6 +125,9 @@ fn numbered(endpoint: Endpoint, store0: &mut [u8], store1: &mut [u8], tag: u8, b
     }
     if tag == COMPLETE {
         return completed(endpoint, store0, store1, body);
+    }
+    if tag == DECLARE {
+        return declared(endpoint, body);
     }
     if tag == TIMEOUT {
         return endpoint::timeout(endpoint, word(body, 0));

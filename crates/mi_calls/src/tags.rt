@@ -25,6 +25,8 @@ pub const RESET: u8 = 24;
 
 pub const LOOK: u8 = 25;
 
+pub const DECLARE: u8 = 48;
+
 // ---- The requester.
 pub const REQUESTER_SETUP: u8 = 32;
 
@@ -70,6 +72,7 @@ fn least_size(tag: u8) -> usize
         REQUESTER_PRIMITIVE => 12,
         REQUESTER_RECEIVE => 0,
         REQUESTER_LOOK => 0,
+        DECLARE => 9,
         _ => 1,
     }
 }
@@ -91,6 +94,7 @@ fn most_size(tag: u8) -> usize {
         REQUESTER_CUT => LONGEST,
         REQUESTER_PRIMITIVE => 12,
         REQUESTER_RECEIVE => LONGEST,
+        DECLARE => 9,
         _ => 0,
     }
 }
@@ -115,4 +119,9 @@ pub(crate) fn is_record(tag: u8, n: usize) -> bool
         return false;
     }
     is_sized(tag, n)
+}
+
+// A declaration that is neither 1, the command can still be stopped, nor 0, it no longer can.
+pub(crate) fn is_no_mark(tag: u8, mark: u8) -> bool {
+    tag == DECLARE && mark > 1
 }

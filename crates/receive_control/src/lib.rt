@@ -77,12 +77,13 @@ fn resume(endpoint: Endpoint) -> Endpoint
     Endpoint { slots, ..endpoint }
 }
 
+// Of a command in Process: 1 says that it was stopped with no effect.
 fn taken_word(taking: Taking) -> u16
     ensures { λ r. ⌜ r ≡ takenWord taking ⌝ }
 {
     match taking {
         Taking::Untaken => 1,
-        Taking::Taken => 2,
+        Taking::Taken(can) => if can { 1 } else { 2 },
     }
 }
 

@@ -2,17 +2,16 @@
 -- Assumes nothing.
 use Prim.Native.Nat.{ℕ, _+_, _≤_, _^_, _<_}
 use mathlib.Core.Path.{_≡_, refl, sym, ap, _∙_}
-use mathlib.Core.Bool.{Bool, true, false, not, _&&_}
+use mathlib.Core.Bool.{Bool, true, false}
 use mathlib.Core.List.{List, [], _∷_, _++_}
 use native.Mathlib.Omega.{arith}
-use lib.Dec.{eqb}
 use lib.ListN.{length, take}
-use Rattle.lent.proofs.Choice.{if-ind, false-true, differ}
+use Rattle.lent.proofs.Choice.{false-true, differ}
 use Rattle.opening.proofs.Joining.{front-of}
 use Rattle.machine.specs.State.{World, storeAt, outgoing, settled}
 use Rattle.machine.specs.Finish.{takenRequest}
-use Rattle.machine.specs.Calls.{Call, receive, take!, read, complete, poll, timeout, reset, Event, number, given, part-read, handed-out, step}
-use Rattle.machine.specs.History.{Trace, sending, History, phaseAt, isFor, isTransmit, isPacketOf, responseFor, commanded, transmitted, next, run, start}
+use Rattle.machine.specs.Calls.{Call, take!, complete, Event, number, given, step}
+use Rattle.machine.specs.History.{Trace, sending, History, phaseAt, responseFor, next, run, start}
 use Rattle.machine.specs.Demands.{isProcess, Own}
 use Rattle.machine.specs.Replies.{csiOf}
 use Rattle.machine.specs.declared.Ticket.{Ticket}
@@ -21,7 +20,8 @@ use Rattle.machine.specs.declared.Phase.{Phase}
 use Rattle.machine.specs.declared.Phase.the-variants.{Idle, Receive, Process, Answered, Transmit}
 use Rattle.machine.proofs.Receiving.{csi-most}
 use Rattle.machine.proofs.Fits.{Asked, Going, FitP, Steady, same, newly, released, handed-over, worked, fell}
-use Rattle.machine.proofs.Tickets.{accepted, answers-own, gave, take-keeps, since-run as request-since}
+use Rattle.machine.proofs.Traces.{Adds, nothing, a-payload, an-entry, a-take, a-completion, a-declaration, adds, sent-cases}
+use Rattle.machine.proofs.Tickets.{accepted-process, answers-own, gave, take-keeps, since-run as request-since}
 use Rattle.machine.proofs.Histories.{Good, plain-carries, good-next, good-run, good-every}
 use Rattle.machine.proofs.Responses.{Turned, kept, came-in, answered, turned}
 use Rattle.machine.proofs.Arrives.{filled, process-early}
@@ -43,38 +43,23 @@ data Asks (l m : Trace) : Type 0 where
   by-same : m .requester ≡ l .requester → m .tag ≡ l .tag → m .entries ≡ l .entries → Asks l m
   by-another : m .entries ≡ l .entries + 1 → Asks l m
 
-asks-call : (i : ℕ) (c : Call) (w : World) (v : Event) (l : Trace) → Asks l (commanded i c w v l)
-asks-call i (receive p) w (number n) l =
-    if-ind (Asks l) (eqb n 0 && isFor i p w) (λ _. by-same refl refl refl)
-    (λ _. if-ind (Asks l) (eqb n 1 && isFor i p w) (λ _. by-another refl) (λ _. by-same refl refl refl))
-asks-call i (receive p) w (given t) l = by-same refl refl refl
-asks-call i (receive p) w (part-read s) l = by-same refl refl refl
-asks-call i (receive p) w (handed-out s) l = by-same refl refl refl
-asks-call i (take! j) w (number n) l = by-same refl refl refl
-asks-call i (take! j) w (given t) l = if-ind (Asks l) (eqb j i) (λ _. by-same refl refl refl) (λ _. by-same refl refl refl)
-asks-call i (take! j) w (part-read s) l = by-same refl refl refl
-asks-call i (take! j) w (handed-out s) l = by-same refl refl refl
-asks-call i (read j) w v l = by-same refl refl refl
-asks-call i (complete j t body) w (number n) l = if-ind (Asks l) (eqb n 0 && eqb j i) (λ _. by-same refl refl refl) (λ _. by-same refl refl refl)
-asks-call i (complete j t body) w (given x) l = by-same refl refl refl
-asks-call i (complete j t body) w (part-read s) l = by-same refl refl refl
-asks-call i (complete j t body) w (handed-out s) l = by-same refl refl refl
-asks-call i (poll buffer) w v l = by-same refl refl refl
-asks-call i (timeout j) w v l = by-same refl refl refl
-asks-call i reset w v l = by-same refl refl refl
-
-asks-sent : (p q : Phase) (v : Event) {l m : Trace} → Asks l m → Asks l (transmitted p q v m)
-asks-sent p q v {l} {m} k =
-    if-ind (Asks l) (not (isTransmit p) && isTransmit q) (λ _. over k) (λ _. if-ind (Asks l) (isPacketOf p q v) (λ _. over k) (λ _. k))
-  where
-    over : {n : ℕ} {s : List ℕ} → Asks l m → Asks l (sending m n s)
-    over (by-same a b e) = by-same a b e
-    over (by-another e) = by-another e
+asks-by : {i : ℕ} {c : Call} {w : World} {v : Event} {l m : Trace} → Adds i c w v l m → Asks l m
+asks-by nothing = by-same refl refl refl
+asks-by (a-payload p e v k) = by-same refl refl refl
+asks-by (an-entry p e v k) = by-another refl
+asks-by (a-take t e v) = by-same refl refl refl
+asks-by (a-completion t body e v) = by-same refl refl refl
+asks-by (a-declaration t can e v) = by-same refl refl refl
 
 asks-next : (i : ℕ) (c : Call) (h : History) → Asks (h .trace i) (next c h .trace i)
 unfolding next
 asks-next i c h =
-    asks-sent (phaseAt (h .world) i) (phaseAt (step c (h .world) .world) i) (step c (h .world) .event) (asks-call i c (h .world) (step c (h .world) .event) (h .trace i))
+    let k = asks-by (adds i c (h .world) (step c (h .world) .event) (h .trace i)) in
+    sent-cases (Asks (h .trace i)) (phaseAt (h .world) i) (phaseAt (step c (h .world) .world) i) (step c (h .world) .event) _ k (λ n s. over k)
+  where
+    over : {n : ℕ} {s : List ℕ} {m : Trace} → Asks (h .trace i) m → Asks (h .trace i) (sending m n s)
+    over (by-same a b e) = by-same a b e
+    over (by-another e) = by-another e
 
 -- along a list: while no other command has come, the one who asked is the same
 module _ (i first requester tag : ℕ) where
@@ -125,8 +110,8 @@ fresh-after {p = p} {q = q} unit store l (same e) a n f there = by q (ap isProce
     by (Transmit r) k f = false-true k
 fresh-after {p = p} unit store l (newly x y) a n f there = process-early p x a
 fresh-after unit store l (released x b d) a n f there = false-true (sym (ap isProcess b) ∙ a)
-fresh-after unit store l (handed-over x b d) a n f there =
-    let k : FitP unit (Process (takenRequest x)) store l = rw d at f in absurd (there (k .unfixed))
+fresh-after unit store l (handed-over x can b d) a n f there =
+    let k : FitP unit (Process (takenRequest x can)) store l = rw d at f in absurd (there (k .unfixed))
 fresh-after unit store l (worked x b y d e) a n f there = settled-fresh b y e
 fresh-after unit store l (fell c e) a n f there = absurd (n c)
 
@@ -199,12 +184,12 @@ module _ (h₁ : History) (g₁ : Good h₁) (w₀ : World) (source tag : ℕ) (
       let first = h₁ .trace i .entries in
       let from : Since i first source tag h₁ = record { grown = omega arith; asker = λ _. (sym (came .from), sym (came .under)) } in
       let to-k = since-run i first source tag ys h₂ (since-next i first source tag (take! i) (run us h₁) (since-run i first source tag us h₁ from)) in
-      since-next i first source tag (complete i t body) k to-k .asker (complete-entries i t body k ∙ own .no-entry ∙ alone)
+      since-next i first source tag (complete i t body) k to-k .asker (complete-entries i t body k ∙ own .command .no-entry ∙ alone)
 
   unsent-is : step (complete i t body) (k .world) .event ≡ number 0 → isUnsent i k₁ ≡ true
   unsent-is done =
       let gk₁ = good-next (complete i t body) k gk in
-      let process = accepted (k .world) (gk .sound) i is t body done .0 in
+      let process = accepted-process (k .world) i t body done in
       let steady = plain-carries (complete i t body) k gk refl .carried i is .steady in
       let fits : FitP (k₁ .world .endpoint .unit) (phaseAt (step (complete i t body) (k .world) .world) i) (storeAt (k₁ .world) i) (k₁ .trace i) = unfold next in (gk₁ .fits i is .phase-fits) in
       let fresh : Fresh (phaseAt (step (complete i t body) (k .world) .world) i) =

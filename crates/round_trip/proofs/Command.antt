@@ -70,7 +70,7 @@ reads : (w : World) → Sound w → (i : ℕ) → i ≤ 1 → (r : Request) → 
     → step (read i) (step (take! i) w .world) .event ≡ part-read (take (r .length) (storeAt w i))
 unfolding step taken part
 reads w s i is r u p =
-    rw (slot-number i is, p, u, s .size0, s .size1, slot-this i is (s .state) (withPhase (slotAt (w .endpoint) i) (Process (takenRequest r)))) refl
+    rw (slot-number i is, p, u, s .size0, s .size1, slot-this i is (s .state) (withPhase (slotAt (w .endpoint) i) (Process (takenRequest r false)))) refl
 
 -- both, where the command has come
 pub reads-back : (w₀ w : World) (source tag : ℕ) (m : List ℕ) → Entered w₀ source tag m w → step (read (csiOf m)) (step (take! (csiOf m)) w .world) .event ≡ part-read m

@@ -9,20 +9,21 @@ use native.Mathlib.Omega.{arith}
 use lib.Dec.{eqb, ltb}
 use lib.ListN.{length, take, List·getD-append}
 use lib.Seq.{length-take-le}
-use borrow.Author.Tests.{eq-eqb, eqb-true, ltb-false}
+use borrow.Author.Tests.{eq-eqb, eqb-false, ltb-false}
 use Rattle.lent.specs.Choice.{if_then_else_}
 use Rattle.lent.specs.Bytes.{byteAt, isSet}
-use Rattle.lent.proofs.Choice.{if-ind, or-left, or-right, and-both, false-true}
+use Rattle.lent.proofs.Choice.{if-ind, or-left, or-right, false-true}
 use Rattle.nvme_mi.specs.Check.{checkRight, withCheck}
 use Rattle.nvme_mi.proofs.Laws.{length-withCheck, check-of-own}
 use Rattle.opening.specs.Formed.{WellFormed}
 use Rattle.machine.specs.State.{World, slotAt, storeAt}
 use Rattle.machine.specs.Valid.{PhaseFacts}
 use Rattle.machine.specs.Receive.{received}
-use Rattle.machine.specs.Finish.{taken, completed}
-use Rattle.machine.specs.Calls.{Call, receive, take!, read, complete, poll, timeout, reset, Event, number, given, part-read, handed-out, takeEvent, step}
-use Rattle.machine.specs.History.{Trace, History, hasSom, sourceOf, messageTagOf, bytesFrom4, phaseAt, receivesFrom, isFor, requestWith, kindOf, responseFor, leastLength, fixedAtEntry, commanded, transmitted, isTransmit, isPacketOf, next, run, start, unitOf}
-use Rattle.machine.specs.Numbers.{rightSizes, isTaken, completeIn}
+use Rattle.machine.specs.Finish.{completed}
+use Rattle.machine.specs.Calls.{Call, receive, complete, number, step}
+use Rattle.machine.specs.History.{Trace, History, hasSom, sourceOf, messageTagOf, bytesFrom4, phaseAt, receivesFrom, isFor, requestWith, kindOf, responseFor, leastLength, fixedAtEntry, next, run, start, unitOf}
+use Rattle.machine.specs.Numbers.{ticketNumber, rightSizes}
+use Rattle.machine.specs.Demands.{completes}
 use Rattle.machine.specs.Grounds.{hasEom, controlNumber, firstNumber, receiveNumber}
 use Rattle.machine.specs.declared.Ticket.{Ticket}
 use Rattle.machine.specs.declared.Phase.{Phase}
@@ -33,6 +34,9 @@ use Rattle.machine.proofs.Grounds.{grounds}
 use Rattle.machine.proofs.Numbers.{complete-numbers}
 use Rattle.machine.proofs.Fits.{Asked}
 use Rattle.machine.proofs.Histories.{Good, good-next, good-start}
+use Rattle.machine.proofs.Cases.{same-number}
+use Rattle.machine.proofs.Traces.{Adds, nothing as no-more, a-payload, an-entry, a-take, a-completion, a-declaration, adds, sent-cases}
+use Rattle.machine.proofs.Tickets.{accepted}
 use Rattle.round_trip.specs.Response.{ResponsesFormed}
 
 -- ---- what the endpoint makes
@@ -96,6 +100,14 @@ past : (b : Bool) (x y n : ℕ) → n ≤ 1 → 2 ≤ x → (if b then x else y)
 past true x y n low high e = absurd (omega arith)
 past false x y n low high e = (refl, e)
 
+-- the tests of another table were passed
+past-number : (x y : ℕ) → (if not (eqb x 0) then x else y) ≡ 0 → y ≡ 0
+past-number x y = by (eqb x 0) refl
+  where
+    by : (b : Bool) → eqb x 0 ≡ b → (if not b then x else y) ≡ 0 → y ≡ 0
+    by true q e = e
+    by false q e = absurd (eqb-false x 0 q e)
+
 control-high : (p m : List ℕ) → 2 ≤ controlNumber p m
 control-high p m =
     if-ind (λ (x : ℕ). 2 ≤ x) (not (hasEom p) || not (eqb (length m) 12)) (λ _. omega arith)
@@ -146,29 +158,25 @@ taken-kind h g i is p n low e k old = by (hasSom p) refl
 
 -- ---- a completion that is accepted
 
-completed-formed : (h : History) → Good h → (i : ℕ) → i ≤ 1 → (t : Ticket) (body : List ℕ) → completed (h .world) i t body .answer ≡ 0 → Kind (h .trace i .request)
+-- what completing answered
+completed-as : (w : World) (i : ℕ) (t : Ticket) (body : List ℕ) {n : ℕ} → step (complete i t body) w .event ≡ number n → completed w i t body .answer ≡ n
+unfolding step
+completed-as w i t body e = same-number e
+
+completed-formed : (h : History) → Good h → (i : ℕ) → i ≤ 1 → (t : Ticket) (body : List ℕ) → step (complete i t body) (h .world) .event ≡ number 0 → Kind (h .trace i .request)
     → WellFormed true (responseFor i (h .trace i .request) body)
 completed-formed h g i is t body e old =
-    let a = past (not (rightSizes (h .world))) 40 _ 0 (omega arith) (omega arith) (sym (complete-numbers (h .world) i t body) ∙ e) in
-    let b = past (ltb 1 i) 30 _ 0 (omega arith) (omega arith) (a .1) in
-    by (phaseAt (h .world) i) refl (b .1)
-  where
-    by : (p : Phase) → phaseAt (h .world) i ≡ p → completeIn (slotAt (h .world .endpoint) i .ticket .0) t body p ≡ 0 → WellFormed true (responseFor i (h .trace i .request) body)
-    by (Idle held) q n = absurd (omega (arith, n))
-    by (Receive x) q n = absurd (omega (arith, n))
-    by (Process r) q n =
-        let c = past (not (eqb (t .0) (slotAt (h .world .endpoint) i .ticket .0))) 32 _ 0 (omega arith) (omega arith) n in
-        let d = past (not (isTaken (r .taking))) 34 _ 0 (omega arith) (omega arith) (c .1) in
-        let sizes = past (ltb (length body) 4 || ltb 4216 (length body)) 35 _ 0 (omega arith) (omega arith) (d .1) .0 in
-        let k : Asked r (storeAt (h .world) i) (h .trace i) = rw q at (g .fits i is .phase-fits) in
-        let f : PhaseFacts (h .world .endpoint .unit) (slotAt (h .world .endpoint) i .paused) (Process r) = rw q at (facts-at i is (g .sound .state)) in
-        let long : 8 ≤ length (h .trace i .request) =
-        rw (sym (k .held)) (rw (length-take-le (r .length) (storeAt (h .world) i) (rw (store-at i (g .sound)) (f .1))) (f .0)) in
-        formed i (h .trace i .request) body is (long-kind (h .trace i .request) old (omega arith))
-        (ltb-false (length body) 4 (or-left (ltb (length body) 4) (ltb 4216 (length body)) sizes))
-        (ltb-false 4216 (length body) (or-right (ltb (length body) 4) (ltb 4216 (length body)) sizes))
-    by (Answered x) q n = absurd (omega (arith, n))
-    by (Transmit x) q n = absurd (omega (arith, n))
+    let a = past (not (rightSizes (h .world))) 40 _ 0 (omega arith) (omega arith) (sym (complete-numbers (h .world) i t body) ∙ completed-as (h .world) i t body e) in
+    let sizes = past (ltb (length body) 4 || ltb 4216 (length body)) 35 _ 0 (omega arith) (omega arith) (past-number (ticketNumber (h .world .endpoint) i t) _ (a .1)) .0 in
+    let m = accepted (h .world) i t (complete i t body) (completes body) e in
+    let r = m .request in
+    let k : Asked r (storeAt (h .world) i) (h .trace i) = rw (m .in-process) at (g .fits i is .phase-fits) in
+    let f : PhaseFacts (h .world .endpoint .unit) (slotAt (h .world .endpoint) i .paused) (Process r) = rw (m .in-process) at (facts-at i is (g .sound .state)) in
+    let long : 8 ≤ length (h .trace i .request) =
+    rw (sym (k .held)) (rw (length-take-le (r .length) (storeAt (h .world) i) (rw (store-at i (g .sound)) (f .1))) (f .0)) in
+    formed i (h .trace i .request) body is (long-kind (h .trace i .request) old (omega arith))
+    (ltb-false (length body) 4 (or-left (ltb (length body) 4) (ltb 4216 (length body)) sizes))
+    (ltb-false 4216 (length body) (or-right (ltb (length body) 4) (ltb 4216 (length body)) sizes))
 
 -- ---- along a list of calls
 
@@ -176,58 +184,31 @@ record Known (l : Trace) : Type 0 where
   asked : Kind (l .request)
   fixed : Fine (l .response)
 
--- packets that leave change neither
-known-sent : (p q : Phase) (v : Event) (l : Trace) → Known l → Known (transmitted p q v l)
-known-sent p q v l k =
-    if-ind Known (not (isTransmit p) && isTransmit q) (λ _. record { asked = k .asked; fixed = k .fixed })
-    (λ _. if-ind Known (isPacketOf p q v) (λ _. record { asked = k .asked; fixed = k .fixed }) (λ _. k))
-
 module _ (h : History) (g : Good h) (i : ℕ) (is : i ≤ 1) (k : Known (h .trace i)) where
   abbrev l : Trace
   l = h .trace i
 
-  by-receive : (p : List ℕ) (n : ℕ) → received (h .world) p .answer ≡ n → Known (commanded i (receive p) (h .world) (number n) l)
-  by-receive p n e =
-      if-ind Known (eqb n 0 && isFor i p (h .world))
-      (λ b.
-      let q = and-both (eqb n 0) (isFor i p (h .world)) b in
-      record { asked = command (taken-kind h g i is p n (omega (arith, eqb-true n 0 (q .0))) e (q .1) (k .asked)); fixed = k .fixed })
-      (λ _.
-      if-ind Known (eqb n 1 && isFor i p (h .world))
-      (λ b.
-      let q = and-both (eqb n 1) (isFor i p (h .world)) b in
-      let c = taken-kind h g i is p n (omega (arith, eqb-true n 1 (q .0))) e (q .1) (k .asked) in
-      record { asked = command c; fixed = fixed-formed i (requestWith p l) is c })
-      (λ _. k))
-
-  by-complete : (j : ℕ) (t : Ticket) (body : List ℕ) (n : ℕ) → completed (h .world) j t body .answer ≡ n → Known (commanded i (complete j t body) (h .world) (number n) l)
-  by-complete j t body n e =
-      if-ind Known (eqb n 0 && eqb j i)
-      (λ b.
-      let q = and-both (eqb n 0) (eqb j i) b in
-      let here : completed (h .world) i t body .answer ≡ 0 = ap (λ (x : ℕ). completed (h .world) x t body .answer) (sym (eqb-true j i (q .1))) ∙ e ∙ eqb-true n 0 (q .0) in
-      record { asked = k .asked; fixed = some (completed-formed h g i is t body here (k .asked)) })
-      (λ _. k)
-
-  by-take : (j : ℕ) (v : Event) → Known (commanded i (take! j) (h .world) v l)
-  by-take j (number n) = k
-  by-take j (given t) = if-ind Known (eqb j i) (λ _. record { asked = k .asked; fixed = k .fixed }) (λ _. k)
-  by-take j (part-read s) = k
-  by-take j (handed-out s) = k
-
-  known-call : (c : Call) → Known (commanded i c (h .world) (step c (h .world) .event) l)
+  -- what a packet was answered
+  said : (c : Call) (p : List ℕ) (n : ℕ) → c ≡ receive p → step c (h .world) .event ≡ number n → received (h .world) p .answer ≡ n
   unfolding step
-  known-call (receive p) = by-receive p (received (h .world) p .answer) refl
-  known-call (take! j) = by-take j (takeEvent (taken (h .world .endpoint) j .answer))
-  known-call (read j) = k
-  known-call (complete j t body) = by-complete j t body (completed (h .world) j t body .answer) refl
-  known-call (poll buffer) = k
-  known-call (timeout j) = k
-  known-call reset = k
+  said c p n e v = same-number (ap (λ (x : Call). step x (h .world) .event) (sym e) ∙ v)
+
+  known-by : {c : Call} {m : Trace} → Adds i c (h .world) (step c (h .world) .event) l m → Known m
+  known-by no-more = k
+  known-by {c} (a-payload p e v f) = record { asked = command (taken-kind h g i is p 0 (omega arith) (said c p 0 e v) f (k .asked)); fixed = k .fixed }
+  known-by {c} (an-entry p e v f) =
+      let kind = taken-kind h g i is p 1 (omega arith) (said c p 1 e v) f (k .asked) in
+      record { asked = command kind; fixed = fixed-formed i (requestWith p l) is kind }
+  known-by (a-take t e v) = record { asked = k .asked; fixed = k .fixed }
+  known-by {c} (a-completion t body e v) =
+      record { asked = k .asked; fixed = some (completed-formed h g i is t body (ap (λ (x : Call). step x (h .world) .event) (sym e) ∙ v) (k .asked)) }
+  known-by (a-declaration t can e v) = record { asked = k .asked; fixed = k .fixed }
 
   known-next : (c : Call) → Known (next c h .trace i)
   unfolding next
-  known-next c = known-sent (phaseAt (h .world) i) (phaseAt (step c (h .world) .world) i) (step c (h .world) .event) _ (known-call c)
+  known-next c =
+      let f = known-by (adds i c (h .world) (step c (h .world) .event) l) in
+      sent-cases Known (phaseAt (h .world) i) (phaseAt (step c (h .world) .world) i) (step c (h .world) .event) _ f (λ n s. record { asked = f .asked; fixed = f .fixed })
 
 known-run : (xs : List Call) (h : History) → Good h → (i : ℕ) → i ≤ 1 → Known (h .trace i) → Known (run xs h .trace i)
 unfolding run

@@ -23,7 +23,7 @@ use Rattle.machine.specs.declared.Held.the-variants.{Last}
 use Rattle.machine.specs.declared.Phase.{Phase}
 use Rattle.machine.specs.declared.Phase.the-variants.{Idle, Receive, Process, Answered, Transmit}
 use Rattle.machine.proofs.Fits.{Entry, entered, stayed}
-use Rattle.machine.proofs.Tickets.{accepted}
+use Rattle.machine.proofs.Tickets.{accepted-process}
 use Rattle.machine.proofs.Histories.{Good, kept-by, next-unit, good-next, good-every}
 use Rattle.machine.proofs.Responses.{Turned, kept, came-in, answered, turned}
 use Rattle.machine.proofs.Identity.{run-eid, run-unit, next-eid}
@@ -80,7 +80,7 @@ module _ (i : ℕ) (is : i ≤ 1) (first : ℕ) (response : List ℕ) where
             same =
                 λ k.
                 let q = s .same (sym n ∙ k) in
-                false-true (sym (q .1) ∙ accepted (h .world) (g .sound) i is t body (ap (λ (x : Call). step x (h .world) .event) (sym e) ∙ v) .0);
+                false-true (sym (q .1) ∙ accepted-process (h .world) i t body (ap (λ (x : Call). step x (h .world) .event) (sym e) ∙ v));
           }
 
   still-run : (cs : List Call) (h : History) → Still h → Still (run cs h)

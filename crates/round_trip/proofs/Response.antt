@@ -20,7 +20,7 @@ use Rattle.machine.specs.State.{World, slotAt, storeAt, withSlot, withEndpoint,
 use Rattle.machine.specs.Wire.{routeTo}
 use Rattle.machine.specs.Poll.{otherSlot, isLast, advanced, afterPacket, commandPacket}
 use Rattle.machine.specs.Valid.{Sound, PhaseFacts}
-use Rattle.machine.specs.Calls.{Call, receive, take!, read, complete, poll, timeout, reset, Event, handed-out, Stepped, stepped, step, given, part-read, number}
+use Rattle.machine.specs.Calls.{Call, receive, take!, read, complete, declare, poll, timeout, reset, Event, handed-out, Stepped, stepped, step, given, part-read, number}
 use Rattle.machine.specs.History.{Trace, History, phaseAt, isTransmit, moved, isPacketOf, commanded, transmitted, next, run, start, cuts, packetsLeft, lastPacketOut, unitOf}
 use Rattle.machine.specs.Demands.{cut as cut-off, delivered, fate, routeOf, isProcess, isAnswered}
 use Rattle.machine.specs.declared.Response.{Response}
@@ -90,7 +90,7 @@ on-steady : {C : Type 0} {p q : Phase} (r : Outgoing) → Steady C p q → p ≡
 on-steady r (same e) a n = e ∙ a
 on-steady r (newly x y) a n = false-true (sym (ap isEarly a) ∙ x)
 on-steady r (released x b d) a n = differ (cc (sym a ∙ b))
-on-steady r (handed-over x b d) a n = differ (cc (sym a ∙ b))
+on-steady r (handed-over x can b d) a n = differ (cc (sym a ∙ b))
 on-steady r (worked x b y d e) a n = differ (cc (sym a ∙ d))
 on-steady r (fell c e) a n = absurd (n c)
 
@@ -110,6 +110,7 @@ commanded-out i (receive p) w s l = refl
 commanded-out i (take! j) w s l = refl
 commanded-out i (read j) w s l = refl
 commanded-out i (complete j t body) w s l = refl
+commanded-out i (declare j t can) w s l = refl
 commanded-out i (poll buffer) w s l = refl
 commanded-out i (timeout j) w s l = refl
 commanded-out i reset w s l = refl
@@ -277,7 +278,7 @@ waits-steady : {C : Type 0} {p q : Phase} (r : Response) → Steady C p q → p 
 waits-steady r (same e) a n = waits (e ∙ a)
 waits-steady r (newly x y) a n = false-true (sym (ap isEarly a) ∙ x)
 waits-steady r (released x b d) a n = starts (d ∙ ap (λ (y : Response). Transmit (outgoing y 0)) (answered-same (sym a ∙ b)))
-waits-steady r (handed-over x b d) a n = differ (cc (sym a ∙ b))
+waits-steady r (handed-over x can b d) a n = differ (cc (sym a ∙ b))
 waits-steady r (worked x b y d e) a n = differ (cc (sym a ∙ d))
 waits-steady r (fell c e) a n = absurd (n c)
 

@@ -7,14 +7,19 @@ ghost use Rattle.lent.specs.Choice.{if_then_else_};
 ghost use Rattle.machine.specs.State.{slotAt, withSlot, isIdle, idled as State·idled, holding as State·holding, settled as State·settled, ended as State·ended};
 ghost use Rattle.machine.specs.Poll.{otherSlot};
 ghost use Rattle.machine.specs.Wire.{store-size};
+ghost use Rattle.machine.specs.Finish.{presented as Finish·presented};
 ghost use Rattle.machine.specs.Control.{pausedSlot, pause as Control·pause};
 use machine::Done;
 use machine::Endpoint;
 use machine::Held;
 use machine::Outgoing;
 use machine::Phase;
+use machine::Presented;
 use machine::Response;
 use machine::Slot;
+use machine::Taking;
+use machine::Ticket;
+use machine::answers;
 use machine::sizes::STORE_SIZE;
 
 // One of the lent stores, of n0 and n1 bytes, has another length.
@@ -108,6 +113,30 @@ pub fn settled(paused: bool, response: Response) -> Phase
     } else {
         Phase::Transmit(Outgoing { response, sent: 0 })
     }
+}
+
+// A ticket that is presented for a slot: the taken command that it belongs to, or why there is none. 30 slot above 1; 31 not in Process, or its
+// response is there; 32 ticket not the slot's present one; 34 not taken.
+pub fn presented(endpoint: Endpoint, slot: usize, ticket: Ticket) -> Presented
+    ensures { λ r. ⌜ r ≡ Finish·presented endpoint slot ticket ⌝ }
+{
+    if slot > 1 {
+        return Presented::Unmatched(answers::NO_SUCH_SLOT);
+    }
+    let s = endpoint.slots[slot];
+    let phase = s.phase;
+    let Phase::Process(request) = phase else {
+        return Presented::Unmatched(answers::NO_COMMAND);
+    };
+    let present = s.ticket;
+    if ticket.0 != present.0 {
+        return Presented::Unmatched(answers::OTHER_TICKET);
+    }
+    let taking = request.taking;
+    let Taking::Taken(_) = taking else {
+        return Presented::Unmatched(answers::NOT_TAKEN);
+    };
+    Presented::Matched(request)
 }
 
 // What a call answers, and the state that it leaves.

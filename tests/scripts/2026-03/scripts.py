@@ -6,8 +6,8 @@ in a script the requester is EID 9 and the endpoint EID 8.
 """
 from call_records import (RESET, await_from, complete, cut_message, poll, primitive, read, receive,
                           receive_all, requester_setup, setup, stores, take, timeout)
-from call_steps import (NOTHING, SHORT, TAKEN, WRONG_STORES, carried, looks, over, polls, reply,
-                        requester_looks, written)
+from call_steps import (NOTHING, SHORT, TAKEN, WRONG_STORES, at, both, carried, error_reply, looks, of, over,
+                        polls, reply, requester_looks, taken, written)
 from records import ask, command, control, damaged, packet, packets
 from second.wire import ABORT, GET_STATE, PAUSE, REPLAY, RESUME
 from steps import BODY, COMMANDS, SLOTS, TAGS, Described, refused, replied, response, sends, sent, start
@@ -19,25 +19,12 @@ TWO = bytes(range(57))                                # the body of a response o
 LONG = bytes(i % 253 for i in range(4216))            # 66 packets
 FLAGS = {11: 0x40, 12: 0x80, 13: 0x100, 14: 0x1000, 16: 0x200, 19: 0x10, 21: 0x400}
 
-def taken(slot):
-    return (receive(COMMANDS[slot]), 1), (take(slot), "0 1")
-
 def done(slot, body=TWO):
     """The slot's command, its response sent whole: the slot is Idle and holds it."""
     return *taken(slot), (complete(1, body, slot), 0), polls(*sends(slot, body))
 
 def replay(slot, **fields):
     return receive(ask(REPLAY, slot, **fields)), 2
-
-# What a look shows where one slot was used and the other was not
-
-def of(slot, value):
-    """The value for the slot, and 0 for the other."""
-    return (value, 0) if slot == 0 else (0, value)
-
-def at(slot, phase="idle", store=b"", tickets=1, **fields):
-    """The slot in this state, after so many commands."""
-    return {f"slot{slot}": phase, f"store{slot}": store, "tickets": of(slot, tickets), **fields}
 
 def after(slot, phase="idle", front=b"", **fields):
     """The slot has sent the response of TWO, or began to; since then `front` was stored."""
@@ -49,11 +36,6 @@ def held(slot, **fields):
 def replaying(slot, count, **fields):
     """So many packets of the response of TWO went again."""
     return after(slot, f"transmit:9:{TAGS[slot]}:65:{count}", **fields)
-
-def both(one, other, **fields):
-    """The same where both were used; what is of no slot is as for `one`."""
-    tickets = tuple(map(sum, zip(one["tickets"], other["tickets"])))
-    return {**other, **one, "tickets": tickets, **fields}
 
 # A replay from its beginning to its end; the tickets and the stores stay
 for slot, other in SLOTS:
@@ -158,7 +140,7 @@ for slot, other in SLOTS:
                                        ("cpsp-0100", REPLAY, dict(cpsp=0x0100), (4, 0, 6, 0)),
                                        ("opcode-5", 5, {}, (3, 0, 0, 0))):
         script(f"kept-{name}-{slot}", *done(slot), (receive(ask(opcode, slot, **fields)), 2),
-               looks(**held(slot, reply=f"9:2:{response(bytes(body), slot, 0).hex()}")))
+               looks(**held(slot, reply=error_reply(slot, *body))))
     script(f"kept-calls-{slot}", *done(slot), (take(slot), 31), (read(slot), "0 -"),
            (complete(1, BODY, slot), 31), (complete(0, b"", slot), 31), (timeout(slot), 37), (take(2), 30),
            (complete(1, BODY, 2), 30), (timeout(2), 30), (poll(), NOTHING), looks(**held(slot)))

@@ -26,11 +26,18 @@ abbrev tested : tie.Else5 → tie.Else4
 tested c = c .before .before .before .before .before .before
 
 returns-4 : tie.Need-returns-4
-returns-4 c on = let known = tested c in (known .before .is-record .ensures (not-false _ (known .if4 .left)), omega arith)
+returns-4 c on = false-true (sym (c .none4 .ensures) ∙ on)
+
+-- behind the test of a declaration's mark
+abbrev marked : tie.Else6 → tie.Else5
+marked c = c .before .before .before
+
+returns-5 : tie.Need-returns-5
+returns-5 c on = let known = tested (marked c) in (known .before .is-record .ensures (not-false _ (known .if4 .left)), omega arith)
 
 pub next-record-spec : {M : Type 1} → statement M
 next-record-spec =
     tie.close
     (tie.spec (λ c. search needs) (λ c κs. search needs) (λ c. search needs) (λ c. search needs) (λ c κs. search needs) (λ c κs. search needs) returns (λ c κs. search needs) (λ c κs. search needs)
     (λ c κs. search needs) returns-2 (λ c. search needs) part-length (λ c κs. search needs) (λ c κs. search needs) (λ c κs. search needs) (λ c. search needs) returns-3
-    (λ c. search needs) returns-4)
+    (λ c. search needs) (λ c κs. search needs) (λ c κs. search needs) (λ c κs. search needs) (λ c. search needs) returns-4 (λ c. search needs) returns-5)

@@ -55,10 +55,10 @@ returns-4 c =
     let untaken = c .before in
     let at-command = untaken .before .before .before .before in
     let slot-known = at-command .before .before .before in
-    done (slot-known .before) (rw (lt-ltb _ _ (slot-known .if1 .left), at-command .phase .given .1, untaken .enum-told .given .1))
+    done (slot-known .before) (rw (lt-ltb _ _ (slot-known .if1 .left), at-command .phase .given .1, untaken .enum-told .given .1, c .with-mark .ensures))
 
 pub take-spec : {M : Type 1} → statement M
 take-spec =
     tie.close
     (tie.spec returns (λ c. search needs) (λ c. search needs) (λ c. search needs) returns-2 (λ c. search needs) (λ c. search needs)
-    returns-3 (λ c. search needs) (λ c. search needs) returns-4)
+    returns-3 (λ c κs. search needs) returns-4)

@@ -22,11 +22,14 @@ setup-read c = omega (arith, enough (c .before .before) 16 (c .before .if1 .take
 completed-requires : tie.Need-completed-requires
 completed-requires c κs = (search needs, enough (c .before .before .before .before .before) 21 (c .before .before .if3 .taken))
 
+declared-requires : tie.Need-declared-requires
+declared-requires c κs = (search needs, enough (c .before .before .before .before) 48 (c .if4 .taken))
+
 word-requires : tie.Need-word-requires
-word-requires c κs = enough (c .before .before .before .before) 23 (c .if4 .taken)
+word-requires c κs = enough (c .before .before .before .before .before) 23 (c .if5 .taken)
 
 pub numbered-spec : {M : Type 1} → statement M
 numbered-spec =
     tie.close
     (tie.spec setup-read (λ c κs. search needs) (λ c κs. search needs) (λ c. search needs) (λ c κs. search needs) (λ c. search needs) (λ c. search needs) (λ c. search needs) completed-requires (λ c. search needs)
-    (λ c. search needs) (λ c. search needs) word-requires (λ c κs. search needs) (λ c. search needs) (λ c κs. search needs) (λ c. search needs))
+    (λ c. search needs) (λ c. search needs) declared-requires (λ c. search needs) word-requires (λ c κs. search needs) (λ c. search needs) (λ c κs. search needs) (λ c. search needs))
