@@ -96,13 +96,15 @@ shown =
     -- ticket-own, declare-marks, mark-own: a declaration of the command that was taken is accepted, and the history has it
     ∷ says (declaring true) worked-on
     ∷ yes (stoppable .trace 0 .stoppable)
-    -- abort-tells: of a command that waits, that is taken, that can still be stopped, that no longer can; and of the next one after that
+    -- abort-tells, told-stopped: of a command that waits, that is taken, that can still be stopped, that no longer can; and of the next one after
+    -- that
     ∷ told waiting
     ∷ told worked-on
     ∷ told stoppable
     ∷ told begun
     ∷ told taken-next
-    -- cut-stays: its ticket after the Abort, before another command comes in
+    -- cut-stays, told-stopped: its ticket after the Abort, before another command comes in
+    ∷ yes (isProcess (phaseAt (stoppable .world) 0))
     ∷ yes (cuts 0 abort (stoppable .world))
     ∷ says (declaring false) (next abort stoppable)
     -- answer-arrives, under the flag: the completion is accepted and waits; a poll is not counted; after Resume the response goes out whole,
@@ -144,6 +146,7 @@ pub premises : shown
     ∷ (1 ∷ [])
     ∷ (2 ∷ [])
     ∷ (2 ∷ [])
+    ∷ (1 ∷ [])
     ∷ (1 ∷ [])
     ∷ (31 ∷ [])
     ∷ (0 ∷ [])

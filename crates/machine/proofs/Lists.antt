@@ -1,4 +1,4 @@
--- A list of calls, and one call more.
+-- Lists of calls joined: a list behind another, a call in the middle, one call more.
 -- Assumes nothing.
 use Prim.Native.Nat.{ℕ, _%_, _^_, _≤_}
 use mathlib.Core.Path.{_≡_, refl, sym, ap, _∙_}
@@ -8,14 +8,18 @@ use Rattle.machine.specs.History.{Trace, History, next, run}
 use Rattle.machine.specs.Stale.{presentTicket}
 use Rattle.machine.proofs.Histories.{Good, good-next, good-run}
 
-run-on : (us vs : List Call) (h : History) → run (us ++ vs) h ≡ run vs (run us h)
+pub run-on : (us vs : List Call) (h : History) → run (us ++ vs) h ≡ run vs (run us h)
 unfolding run
 run-on [] vs h = refl
 run-on (c ∷ us) vs h = run-on us vs (next c h)
 
-last-is : (us : List Call) (c : Call) (h : History) → run (us ++ (c ∷ [])) h ≡ next c (run us h)
+pub run-past : (us : List Call) (c : Call) (vs : List Call) (h : History) → run (us ++ (c ∷ vs)) h ≡ run vs (next c (run us h))
 unfolding run
-last-is us c h = run-on us (c ∷ []) h
+run-past us c vs h = run-on us (c ∷ vs) h
+
+pub run-then : (us : List Call) (c : Call) (h : History) → run (us ++ (c ∷ [])) h ≡ next c (run us h)
+unfolding run
+run-then us c h = run-on us (c ∷ []) h
 
 assoc : (us vs ws : List Call) → (us ++ vs) ++ ws ≡ us ++ (vs ++ ws)
 assoc [] vs ws = refl
@@ -43,7 +47,7 @@ along P more us (c ∷ vs) k = go ((us ++ (c ∷ [])) ++ vs) (assoc us (c ∷ []
 module _ (first : History) (i : ℕ) (xs : List Call) (c : Call) where
   -- the trace after one call more
   pub then-trace : {A : Type 0} (f : Trace → A) {a : A} → f (next c (run xs first) .trace i) ≡ a → f (run (xs ++ (c ∷ [])) first .trace i) ≡ a
-  then-trace f e = ap (λ (h : History). f (h .trace i)) (last-is xs c first) ∙ e
+  then-trace f e = ap (λ (h : History). f (h .trace i)) (run-then xs c first) ∙ e
 
   -- a ticket that was present is so still, where no command came in
   pub then-present : Good first → i ≤ 1 → {n : ℕ} → next c (run xs first) .trace i .entries ≡ run xs first .trace i .entries → n ≡ presentTicket (run xs first) i
@@ -52,4 +56,4 @@ module _ (first : History) (i : ℕ) (xs : List Call) (c : Call) where
       let g = good-run xs first g₀ in
       let g₁ = good-next c (run xs first) g in
       k ∙ g .fits i is .ticket-is ∙ ap (λ (n : ℕ). n % 2 ^ 32) (sym b) ∙ sym (g₁ .fits i is .ticket-is)
-      ∙ ap (λ (h : History). presentTicket h i) (sym (last-is xs c first))
+      ∙ ap (λ (h : History). presentTicket h i) (sym (run-then xs c first))

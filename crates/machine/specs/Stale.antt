@@ -22,14 +22,16 @@ presentTicket h i = slotAt (h .world .endpoint) i .ticket .0
 abbrev pub StaleRefused : Type 0
 StaleRefused = Every (λ h. (i : ℕ) → i ≤ 1 → (t : Ticket) → (t .0 ≡ presentTicket h i → ⊥) → (c : Call) → Presents i t c → TicketRefused (h .world) i c)
 
--- A COMMAND THAT WAS CUT OFF STAYS SO. From an Abort that acts on its slot or a reset on, as long as fewer than 2^32 commands of the slot have come
--- in since, completing and declaring with its ticket are refused and change nothing. So drive software that begins only once "no longer can be
--- stopped" was answered 0 never begins a command that an Abort told as stopped.
+-- from this call on, as long as fewer than 2^32 commands of the slot have come in since, completing and declaring with the ticket that was the
+-- present one are refused and change nothing
+abbrev pub CutOff : History → ℕ → Call → Type 0
+CutOff h i cut =
+    (ys : List Call) → run ys (next cut h) .trace i .entries < h .trace i .entries + 2 ^ 32
+    → (t : Ticket) → t .0 ≡ presentTicket h i → (c : Call) → Presents i t c → TicketRefused (run ys (next cut h) .world) i c
+
+-- A COMMAND THAT WAS CUT OFF STAYS SO, by an Abort that acts on its slot or a reset
 abbrev pub CutStays : Type 0
-CutStays =
-    Every (λ h. (cut : Call) (i : ℕ) → i ≤ 1 → cuts i cut (h .world) ≡ true → (ys : List Call)
-    → run ys (next cut h) .trace i .entries < h .trace i .entries + 2 ^ 32
-    → (t : Ticket) → t .0 ≡ presentTicket h i → (c : Call) → Presents i t c → TicketRefused (run ys (next cut h) .world) i c)
+CutStays = Every (λ h. (cut : Call) (i : ℕ) → i ≤ 1 → cuts i cut (h .world) ≡ true → CutOff h i cut)
 
 -- what fixed the response of slot i that is there after the calls xs
 pub data FixedBy (first : History) (i : ℕ) (xs : List Call) : Type 0 where

@@ -20,6 +20,7 @@ use Rattle.machine.specs.declared.Phase.{Phase}
 use Rattle.machine.specs.declared.Phase.the-variants.{Idle, Receive, Process, Answered, Transmit}
 use Rattle.machine.proofs.Receiving.{csi-most}
 use Rattle.machine.proofs.Fits.{Asked, Going, FitP, Steady, same, newly, released, handed-over, worked, fell}
+use Rattle.machine.proofs.Lists.{run-on, run-then}
 use Rattle.machine.proofs.Traces.{Adds, nothing, a-payload, an-entry, a-take, a-completion, a-declaration, adds, sent-cases}
 use Rattle.machine.proofs.Tickets.{accepted-process, answers-own, gave, take-keeps, since-run as request-since}
 use Rattle.machine.proofs.Histories.{Good, plain-carries, good-next, good-run, good-every}
@@ -121,12 +122,7 @@ fresh-unsent i is h g (goes r e) =
     let on : Going (h .world .endpoint .unit) (outgoing r 0) (storeAt (h .world) i) (h .trace i) = rw e at (g .fits i is .phase-fits) in
     rw (e, on .count) refl
 
--- ---- lists of calls joined
-
-pub run-join : (xs ys : List Call) (h : History) → run (xs ++ ys) h ≡ run ys (run xs h)
-unfolding run
-run-join [] ys h = refl
-run-join (c ∷ cs) ys h = run-join cs ys (next c h)
+-- ---- the world after a list of calls
 
 world-run : (xs : List Call) (h : History) → run xs h .world ≡ worldAfter xs (h .world)
 unfolding run worldAfter next
@@ -137,7 +133,7 @@ world-run (c ∷ cs) h = world-run cs (next c h)
 
 run-last : (c d : Call) (cs : List Call) (h : History) → run (c ∷ (cs ++ (d ∷ []))) h ≡ next d (run cs (next c h))
 unfolding run
-run-last c d cs h = run-join cs (d ∷ []) (next c h)
+run-last c d cs h = run-then cs d (next c h)
 
 -- the list up to the completion, in a history in which the command has come
 module _ (h₁ : History) (g₁ : Good h₁) (w₀ : World) (source tag : ℕ) (m body : List ℕ) (t : Ticket) (us ys : List Call) (e₁ : Entered w₀ source tag m (h₁ .world))
@@ -212,13 +208,13 @@ answer-returns eid unit store0 store1 a b xs s tag m buffer v size one awaited g
     let small = awaited-small (s .requester .unit) (h .world .endpoint .eid) tag (s .requester .awaiting) (v .awaiting-facts) awaited .0 in
     let e₁ : Entered (h .world) (s .requester .eid) tag m (h₁ .world) =
     rw (world-run (receives ps) h) (command-entered (h .world) (s .requester) tag m buffer (g .sound) v one small good room idle none) in
-    let join₁ : run ((xs ++ receives ps) ++ us) begin ≡ run us h₁ = run-join (xs ++ receives ps) us begin ∙ ap (run us) (run-join xs (receives ps) begin) in
+    let join₁ : run ((xs ++ receives ps) ++ us) begin ≡ run us h₁ = run-on (xs ++ receives ps) us begin ∙ ap (run us) (run-on xs (receives ps) begin) in
     let most : beforeCompletion i us ys h₁ .trace i .entries < run us h₁ .trace i .entries + 2 ^ 32 = rw alone few in
     let own : Own (run us h₁) (beforeCompletion i us ys h₁) i t body =
     rw join₁ at (answers-own eid unit store0 store1 a b ((xs ++ receives ps) ++ us) i t (rw join₁ took) ys body (rw join₁ most) (rw join₁ done)) in
     let calls = ((xs ++ receives ps) ++ us) ++ (take! i ∷ (ys ++ (complete i t body ∷ []))) in
     let join₂ : run calls begin ≡ k₁ =
-    run-join ((xs ++ receives ps) ++ us) (take! i ∷ (ys ++ (complete i t body ∷ []))) begin
+    run-on ((xs ++ receives ps) ++ us) (take! i ∷ (ys ++ (complete i t body ∷ []))) begin
     ∙ ap (run (take! i ∷ (ys ++ (complete i t body ∷ [])))) join₁ ∙ run-last (take! i) (complete i t body) ys (run us h₁) in
     let unsent = unsent-is h₁ g₁ (h .world) (s .requester .eid) tag m body t us ys e₁ alone took own done in
     let back : Returned i k₁ (sentUntil i zs k₁) = rw join₂ at (response-arrives eid unit store0 store1 a b calls i (csi-most m) (rw join₂ unsent) zs d (rw join₂ out)) in

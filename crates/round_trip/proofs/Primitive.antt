@@ -21,6 +21,7 @@ use Rattle.machine.specs.History.{History, hasSom, bytesFrom4, isControl, next,
 use Rattle.machine.specs.Demands.{replyPacket}
 use Rattle.machine.specs.Replies.{csiOf, wrongReplay, slotFound, cpsrOf, bodyOf, Replied, GoesWithin, ReplyFate, replaced, sent, waiting, replyFate}
 use Rattle.machine.proofs.Histories.{good-every}
+use Rattle.machine.proofs.Lists.{run-then}
 use Rattle.machine.proofs.Replies.{primitive-done, control-replied, reply-goes}
 use Rattle.controller.specs.State.{Side, Valid}
 use Rattle.controller.specs.Receive.{received}
@@ -130,11 +131,6 @@ body-four m cpsr =
   where
     Four : List ℕ → Type 0
     Four x = length x ≡ 4
-
-pub run-then : (xs : List Call) (c : Call) (h : History) → run (xs ++ (c ∷ [])) h ≡ next c (run xs h)
-unfolding run
-run-then [] c h = refl
-run-then (x ∷ xs) c h = run-then xs c (next x h)
 
 module _ (w : World) (ok : Sound w) (r : Requester) (tag : ℕ) (p : Primitive) (t : tag ≤ 7) (sl : p .slot ≤ 1) where
   abbrev request : List ℕ

@@ -25,6 +25,7 @@ use Rattle.machine.specs.declared.Phase.the-variants.{Idle, Receive, Process, A
 use Rattle.machine.proofs.Fits.{Entry, entered, stayed}
 use Rattle.machine.proofs.Tickets.{accepted-process}
 use Rattle.machine.proofs.Histories.{Good, kept-by, next-unit, good-next, good-every}
+use Rattle.machine.proofs.Lists.{run-on, run-then}
 use Rattle.machine.proofs.Responses.{Turned, kept, came-in, answered, turned}
 use Rattle.machine.proofs.Identity.{run-eid, run-unit, next-eid}
 use Rattle.machine.proofs.Replays.{sent-again}
@@ -32,9 +33,9 @@ use Rattle.controller.specs.Grounds.{isAwaited, primitiveNumbers, primitivePack
 use Rattle.controller.proofs.Calls.{primitive-so}
 use Rattle.round_trip.specs.Response.{isUnsent, sentUntil, Returned}
 use Rattle.round_trip.specs.Replay.{ReplaySame, replayOf, ReplayReturns}
-use Rattle.round_trip.proofs.Primitive.{is-control, run-then}
+use Rattle.round_trip.proofs.Primitive.{is-control}
 use Rattle.round_trip.proofs.Response.{all-sent, response-arrives}
-use Rattle.round_trip.proofs.Answer.{Since, since-run, run-join}
+use Rattle.round_trip.proofs.Answer.{Since, since-run}
 
 -- ---- while no other command comes in
 
@@ -142,7 +143,7 @@ module _ (h : History) (g : Good h) (i : ℕ) (is : i ≤ 1) (unsent : isUnsent 
   calls = made-so i ys h d out .calls ++ zs
 
   later : run zs d ≡ run calls h
-  later = ap (run zs) (made-so i ys h d out .made) ∙ sym (run-join (made-so i ys h d out .calls) zs h)
+  later = ap (run zs) (made-so i ys h d out .made) ∙ sym (run-on (made-so i ys h d out .calls) zs h)
 
   still : Still i is (h .trace i .entries) (h .trace i .response) (run zs d)
   still = rw later (still-run i is (h .trace i .entries) (h .trace i .response) calls h (record { good = g; grown = omega arith; same = λ _. (refl, unsent-outside i h unsent) }))
