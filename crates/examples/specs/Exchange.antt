@@ -39,7 +39,7 @@ controller = requester 9 64 Nothing
 abbrev awaiting : Side
 awaiting = side (requester 9 64 (Awaited (key 8 1))) zeros
 
-abbrev said : ℕ × List ℕ → List ℕ
+abbrev pub said : ℕ × List ℕ → List ℕ
 said x = x .0 ∷ x .1
 
 abbrev pub yes : Bool → List ℕ
@@ -120,7 +120,7 @@ pub get-state-built : take 16 (primitiveTo controller 8 1 (record { slot = 1; op
 unfolding primitiveTo cutPacket withCheck crc32c reflect register steps stepCrc
 get-state-built = refl
 
-abbrev replyIn : ReplyFate → List ℕ
+abbrev pub replyIn : ReplyFate → List ℕ
 replyIn replaced = []
 replyIn (sent n v) = handedOut v
 replyIn (waiting n e) = []

@@ -4,3 +4,4 @@ pub mod Premises
 pub mod Replies
 pub mod Exchange
 pub mod Replay
+pub mod Abort

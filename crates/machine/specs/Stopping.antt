@@ -101,9 +101,10 @@ pub record Stopped (first : History) (i : ℕ) (xs : List Call) (abort : Call) :
   pub until-then : NoEffect first i xs
   pub from-then : CutOff (run xs first) i abort
 
--- WHAT WAS TOLD AS STOPPED DID NOT BEGIN, AND NEVER WILL. An Abort acts on a command in Process, and CPSR of its reply (byte 6 is its low byte) is
--- 1. Then no one had taken the command, or its taker's last word was that it can still be stopped; and from the Abort on its ticket is refused. The
--- drive software's part is to begin a command only after "no longer can be stopped" was answered 0, and to say "can" of none that it has begun.
+-- WHAT WAS TOLD AS STOPPED HAS NO LEAVE TO BEGIN, AND GETS NONE. An Abort acts on a command in Process, and CPSR of its reply (byte 6 is its low
+-- byte) is 1. Then no one had taken the command, or its taker's last word was that it can still be stopped; and from the Abort on its ticket is
+-- refused. Leave to begin is the answer 0 to "no longer can be stopped": the drive software's part is to begin a command only with it, and to say
+-- "can" of none that it has begun. Then a command that was told as stopped has had no effect and will have none.
 abbrev pub ToldStopped : Type 0
 ToldStopped =
     (eid unit : ℕ) (store0 store1 : List ℕ) → length store0 ≡ 4224 → length store1 ≡ 4224 → (xs : List Call) (p : List ℕ) (i : ℕ) → i ≤ 1

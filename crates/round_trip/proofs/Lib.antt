@@ -5,3 +5,4 @@ pub mod Response
 pub mod Primitive
 pub mod Answer
 pub mod Replay
+pub mod Abort

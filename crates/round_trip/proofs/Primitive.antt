@@ -66,14 +66,14 @@ csi-bits i h = omega arith
 abbrev replyWith : ℕ → List ℕ → List ℕ
 replyWith i body = withCheck ((0x84 ∷ (128 + i) ∷ 0 ∷ 0 ∷ []) ++ body)
 
+pub reply-twelve : (i : ℕ) (body : List ℕ) → length body ≡ 4 → length (replyWith i body) ≡ 12
+reply-twelve i body four = length-withCheck ((0x84 ∷ (128 + i) ∷ 0 ∷ 0 ∷ []) ++ body) ∙ omega arith
+
 -- a reply of twelve bytes, in a packet for this requester, from a source and under a tag that it awaits
 module _ (s : Side) (v : Valid (s .requester)) (size : length (s .store) ≡ 4224) (to source tag i : ℕ) (body : List ℕ) (is : i ≤ 1) (four : length body ≡ 4)
     (ours : to ≡ s .requester .eid) (awaited : isAwaited source (tag % 8) (s .requester .awaiting) ≡ true) where
   abbrev packet : List ℕ
   packet = 1 ∷ to ∷ source ∷ (0xC0 + tag % 8) ∷ replyWith i body
-
-  twelve : length (replyWith i body) ≡ 12
-  twelve = length-withCheck ((0x84 ∷ (128 + i) ∷ 0 ∷ 0 ∷ []) ++ body) ∙ omega arith
 
   numbers : receiveNumbers s packet ≡ (2, 12 ∷ [])
   numbers =
@@ -83,7 +83,7 @@ module _ (s : Side) (v : Valid (s .requester)) (size : length (s .store) ≡ 422
       let fits : ltb (s .requester .unit + 4) 16 ≡ false = le-ltb (s .requester .unit + 4) 16 (omega (arith, v .unit-least)) in
       rw (
         size,
-        twelve,
+        reply-twelve i body four,
         fits,
         eq-eqb to (s .requester .eid) ours,
         b .3,
@@ -123,7 +123,7 @@ module _ (s : Side) (v : Valid (s .requester)) (size : length (s .store) ≡ 422
 
 -- ---- the whole
 
-body-four : (m : List ℕ) (cpsr : ℕ) → length (bodyOf m cpsr) ≡ 4
+pub body-four : (m : List ℕ) (cpsr : ℕ) → length (bodyOf m cpsr) ≡ 4
 body-four m cpsr =
     if-ind Four (isSet (byteAt m 2) 0) (λ _. refl)
     (λ _.

@@ -3,3 +3,4 @@ pub mod Response
 pub mod Primitive
 pub mod Answer
 pub mod Replay
+pub mod Abort
