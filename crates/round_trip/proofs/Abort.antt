@@ -1,33 +1,25 @@
 -- An Abort that the requester builds, and what is read of its reply.
 -- Assumes nothing.
-use Prim.Native.Nat.{ℕ, _%_, _≤_}
+use Prim.Native.Nat.{ℕ, _≤_}
 use mathlib.Core.Path.{_≡_, refl, sym, ap, _∙_}
 use mathlib.Core.Bool.{true}
-use mathlib.Core.List.{List, [], _∷_, _++_}
-use native.Mathlib.Nat.{mod-eq-of-lt}
+use mathlib.Core.List.{List, _++_}
 use native.Mathlib.Omega.{arith}
-use lib.Dec.{eqb}
 use lib.ListN.{length, take, drop, List·getD-append}
-use borrow.Author.Tests.{eq-eqb, le-ltb}
 use Rattle.lent.specs.Bytes.{byteAt}
-use Rattle.nvme_mi.specs.Check.{withCheck}
 use Rattle.machine.specs.Calls.{receive, step}
 use Rattle.machine.specs.History.{bytesFrom4, isAbort, run, start}
 use Rattle.machine.specs.Replies.{csiOf, bodyOf, replyOf}
 use Rattle.machine.specs.Stopping.{abortTold}
 use Rattle.machine.proofs.Stopping.{abort-tells, told-stopped}
 use Rattle.controller.specs.Send.{primitiveTo}
-use Rattle.controller.specs.Grounds.{primitiveNumbers, primitivePacket}
-use Rattle.controller.proofs.Calls.{primitive-so}
+use Rattle.controller.specs.Grounds.{primitivePacket}
 use Rattle.round_trip.specs.Primitive.{Comes}
 use Rattle.round_trip.specs.Abort.{abortOf, AbortReturns}
-use Rattle.round_trip.proofs.Primitive.{is-control, reply-twelve, body-four, primitive-answered}
+use Rattle.round_trip.proofs.Primitive.{is-acting, built, reply-twelve, body-four, primitive-answered}
 
 is-abort : (eid source tag i primitive-tag cpsp : ℕ) → tag ≤ 7 → i ≤ 1 → isAbort i eid (primitivePacket source eid tag (abortOf i primitive-tag cpsp)) ≡ true
-unfolding withCheck
-is-abort eid source tag i primitive-tag cpsp t is =
-    let one : i % 2 ≡ i = mod-eq-of-lt (omega arith) in
-    rw (is-control eid source tag (abortOf i primitive-tag cpsp) t is, one, eq-eqb i i refl) refl
+is-abort eid source tag i primitive-tag cpsp t is = let a = is-acting eid source tag (abortOf i primitive-tag cpsp) t is in rw (a .0, a .1) refl
 
 pub abort-returns : AbortReturns
 abort-returns eid unit store0 store1 a b xs i is r tag primitive-tag cpsp buffer v t room ys n e out s ok size ours awaited =
@@ -36,9 +28,7 @@ abort-returns eid unit store0 store1 a b xs i is r tag primitive-tag cpsp buffer
     let p = abortOf i primitive-tag cpsp in
     let packet = take 16 (primitiveTo r own tag p buffer .buffer) in
     let reply = step (receive packet) (h .world) .world .endpoint .reply in
-    let done : primitiveNumbers tag p buffer ≡ (0, 16 ∷ []) = rw (le-ltb 7 tag t, le-ltb 1 i is, le-ltb (length buffer) 16 room) refl in
-    let there : packet ≡ primitivePacket (r .eid) own tag p = primitive-so r own tag p buffer v .packet-is (ap (λ (x : ℕ × List ℕ). eqb (x .0) 0) done) in
-    let acts : isAbort i own packet ≡ true = ap (isAbort i own) there ∙ is-abort own (r .eid) tag i primitive-tag cpsp t is in
+    let acts : isAbort i own packet ≡ true = ap (isAbort i own) (built r own tag p buffer v t is room .1) ∙ is-abort own (r .eid) tag i primitive-tag cpsp t is in
     let told : reply ≡ replyOf (bytesFrom4 packet) (abortTold h packet i) = abort-tells eid unit store0 store1 a b xs packet i is acts .1 in
     let twelve : length reply ≡ 12 =
     ap length told ∙ reply-twelve (csiOf (bytesFrom4 packet)) (bodyOf (bytesFrom4 packet) (abortTold h packet i)) (body-four (bytesFrom4 packet) (abortTold h packet i)) in

@@ -7,7 +7,7 @@ use mathlib.Core.List.{List, [], _∷_, _++_}
 use native.Mathlib.Nat.{mod-lt, mod-eq-of-lt, zero-lt-suc, zero-add}
 use native.Mathlib.Omega.{arith}
 use lib.Dec.{eqb, ltb}
-use lib.ListN.{length, drop}
+use lib.ListN.{length, take, drop}
 use borrow.Author.Tests.{eqb-true, eq-eqb, le-ltb}
 use Rattle.lent.specs.Bytes.{byteAt, isSet, put}
 use Rattle.lent.proofs.Choice.{if-ind, differ}
@@ -17,13 +17,14 @@ use Rattle.machine.specs.State.{World}
 use Rattle.machine.specs.Receive.{received as receivedAt}
 use Rattle.machine.specs.Valid.{Sound}
 use Rattle.machine.specs.Calls.{Call, receive, Event, number, handed-out, step}
-use Rattle.machine.specs.History.{History, hasSom, bytesFrom4, isControl, next, run, start}
+use Rattle.machine.specs.History.{History, hasSom, bytesFrom4, isControl, isPrimitive, next, run, start}
 use Rattle.machine.specs.Demands.{replyPacket}
 use Rattle.machine.specs.Replies.{csiOf, wrongReplay, slotFound, cpsrOf, bodyOf, Replied, GoesWithin, ReplyFate, replaced, sent, waiting, replyFate}
 use Rattle.machine.proofs.Histories.{good-every}
 use Rattle.machine.proofs.Lists.{run-then}
 use Rattle.machine.proofs.Replies.{primitive-done, control-replied, reply-goes}
 use Rattle.controller.specs.State.{Side, Valid}
+use Rattle.controller.specs.Send.{sendSays, primitiveTo}
 use Rattle.controller.specs.Receive.{received}
 use Rattle.controller.specs.Grounds.{keyOf, isAwaited, receiveNumbers, primitiveNumbers, primitivePacket, Left}
 use Rattle.controller.specs.declared.Awaiting.{Awaiting}
@@ -47,13 +48,29 @@ slot-bits : (i : ℕ) → i ≤ 1 → (i / 128 % 2 ≡ 0) × (i / 8 % 16 ≡ 0)
 slot-bits i h = omega arith
 
 -- it passes each test of a control primitive
-pub is-control : (eid source tag : ℕ) (p : Primitive) → tag ≤ 7 → p .slot ≤ 1 → isControl eid (primitivePacket source eid tag p) ≡ true
+is-control : (eid source tag : ℕ) (p : Primitive) → tag ≤ 7 → p .slot ≤ 1 → isControl eid (primitivePacket source eid tag p) ≡ true
 unfolding withCheck
 is-control eid source tag p t s =
     let b = header-bits tag t .0 in
     let c = slot-bits (p .slot) s in
     let message : List ℕ = 0x84 ∷ p .slot ∷ 0 ∷ 0 ∷ p .opcode ∷ p .tag ∷ p .cpsp % 256 ∷ p .cpsp / 256 % 256 ∷ [] in
     rw (eq-eqb eid eid refl, b .0, b .1, b .2, c .0, c .1, check-of-own message) refl
+
+-- it acts, with its opcode, and names its slot
+pub is-acting : (eid source tag : ℕ) (p : Primitive) → tag ≤ 7 → p .slot ≤ 1 → let packet = primitivePacket source eid tag p in
+    (isPrimitive (p .opcode) eid packet ≡ true) × (eqb (byteAt (bytesFrom4 packet) 1 % 2) (p .slot) ≡ true)
+unfolding withCheck
+is-acting eid source tag p t s =
+    (rw (is-control eid source tag p t s, eq-eqb (p .opcode) (p .opcode) refl) refl, eq-eqb (p .slot % 2) (p .slot) (mod-eq-of-lt (omega arith)))
+
+-- in a buffer with room the requester builds it, and it is that packet
+pub built : (r : Requester) (destination tag : ℕ) (p : Primitive) (buffer : List ℕ) → Valid r → tag ≤ 7 → p .slot ≤ 1 → 16 ≤ length buffer
+    → (sendSays (primitiveTo r destination tag p buffer .answer) ≡ (0, 16 ∷ []))
+    × (take 16 (primitiveTo r destination tag p buffer .buffer) ≡ primitivePacket (r .eid) destination tag p)
+built r destination tag p buffer v t sl room =
+    let c = primitive-so r destination tag p buffer v in
+    let done : primitiveNumbers tag p buffer ≡ (0, 16 ∷ []) = rw (le-ltb 7 tag t, le-ltb 1 (p .slot) sl, le-ltb (length buffer) 16 room) refl in
+    (c .wrote .number-is ∙ done, c .packet-is (ap (λ (n : ℕ × List ℕ). eqb (n .0) 0) done))
 
 -- ---- back
 
@@ -193,9 +210,7 @@ primitive-answered eid unit store0 store1 a b xs r tag p buffer v t sl room =
     let h = run xs (start eid unit store0 store1) in
     let w = h .world in
     let ok = good-every eid unit store0 store1 a b xs .sound in
-    let c = primitive-so r (w .endpoint .eid) tag p buffer v in
-    let done : primitiveNumbers tag p buffer ≡ (0, 16 ∷ []) = rw (le-ltb 7 tag t, le-ltb 1 (p .slot) sl, le-ltb (length buffer) 16 room) refl in
-    let there = c .packet-is (ap (λ (n : ℕ × List ℕ). eqb (n .0) 0) done) in (
-      c .wrote .number-is ∙ done,
-      rw there (answered-so w ok r tag p t sl (goes eid unit store0 store1 a b xs (request w ok r tag p t sl) (replied-so w ok r tag p t sl .waits))),
+    let c = built r (w .endpoint .eid) tag p buffer v t sl room in (
+      c .0,
+      rw (c .1) (answered-so w ok r tag p t sl (goes eid unit store0 store1 a b xs (request w ok r tag p t sl) (replied-so w ok r tag p t sl .waits))),
     )

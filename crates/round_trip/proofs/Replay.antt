@@ -1,14 +1,12 @@
 -- A LOST RESPONSE COMES AGAIN: both times the slot's packets are those of one response for one requester, and no call between changes either.
 -- Assumes nothing.
-use Prim.Native.Nat.{ℕ, _+_, _%_, _≤_}
+use Prim.Native.Nat.{ℕ, _+_, _≤_}
 use mathlib.Core.Path.{_≡_, refl, sym, ap, _∙_}
 use mathlib.Core.Bool.{Bool, true, false, _||_, _&&_}
 use mathlib.Core.List.{List, [], _∷_, _++_}
-use native.Mathlib.Nat.{mod-eq-of-lt}
 use native.Mathlib.Omega.{arith}
 use lib.Dec.{eqb}
 use lib.ListN.{length}
-use borrow.Author.Tests.{le-ltb, eq-eqb}
 use Rattle.lent.specs.Choice.{if_then_else_}
 use Rattle.lent.proofs.Choice.{false-true, differ}
 use Rattle.mctp.specs.Cut.{cut}
@@ -29,11 +27,10 @@ use Rattle.machine.proofs.Lists.{run-on, run-then}
 use Rattle.machine.proofs.Responses.{Turned, kept, came-in, answered, turned}
 use Rattle.machine.proofs.Identity.{run-eid, run-unit, next-eid}
 use Rattle.machine.proofs.Replays.{sent-again}
-use Rattle.controller.specs.Grounds.{isAwaited, primitiveNumbers, primitivePacket}
-use Rattle.controller.proofs.Calls.{primitive-so}
+use Rattle.controller.specs.Grounds.{isAwaited, primitivePacket}
 use Rattle.round_trip.specs.Response.{isUnsent, sentUntil, Returned}
 use Rattle.round_trip.specs.Replay.{ReplaySame, replayOf, ReplayReturns}
-use Rattle.round_trip.proofs.Primitive.{is-control}
+use Rattle.round_trip.proofs.Primitive.{is-acting, built}
 use Rattle.round_trip.proofs.Response.{all-sent, response-arrives}
 use Rattle.round_trip.proofs.Answer.{Since, since-run}
 
@@ -180,21 +177,17 @@ replay-same eid unit store0 store1 a b xs i is unsent ys d out zs p r alone e ac
 
 is-replay : (eid source tag i primitive-tag : ℕ) → tag ≤ 7 → i ≤ 1 → isReplay i eid (primitivePacket source eid tag (replayOf i primitive-tag)) ≡ true
 unfolding withCheck
-is-replay eid source tag i primitive-tag t is =
-    let one : i % 2 ≡ i = mod-eq-of-lt (omega arith) in
-    rw (is-control eid source tag (replayOf i primitive-tag) t is, one, eq-eqb i i refl) refl
+is-replay eid source tag i primitive-tag t is = let a = is-acting eid source tag (replayOf i primitive-tag) t is in rw (a .0, a .1) refl
 
 pub replay-returns : ReplayReturns
 replay-returns eid unit store0 store1 a b xs i is held e r tag primitive-tag buffer v t room =
     let h = run xs (start eid unit store0 store1) in
     let g = good-every eid unit store0 store1 a b xs in
     let own = h .world .endpoint .eid in
-    let c = primitive-so r own tag (replayOf i primitive-tag) buffer v in
-    let done : primitiveNumbers tag (replayOf i primitive-tag) buffer ≡ (0, 16 ∷ []) = rw (le-ltb 7 tag t, le-ltb 1 i is, le-ltb (length buffer) 16 room) refl in
-    let there = c .packet-is (ap (λ (n : ℕ × List ℕ). eqb (n .0) 0) done) in
+    let c = built r own tag (replayOf i primitive-tag) buffer v t is room in
     let p = primitivePacket (r .eid) own tag (replayOf i primitive-tag) in
     let s = sent-again h g p i is (is-replay own (r .eid) tag i primitive-tag t is) held e in
-    (c .wrote .number-is ∙ done, rw there (record { sent-again = s; returned = λ ys k out. back eid unit store0 store1 a b xs i is p s ys k out }))
+    (c .0, rw (c .1) (record { sent-again = s; returned = λ ys k out. back eid unit store0 store1 a b xs i is p s ys k out }))
   where
     back : (eid unit : ℕ) (store0 store1 : List ℕ) → length store0 ≡ 4224 → length store1 ≡ 4224 → (xs : List Call) (i : ℕ) → i ≤ 1 → (p : List ℕ)
         → SentAgain (run xs (start eid unit store0 store1)) i p → (ys : List Call) (k : History) → fate i ys (next (receive p) (run xs (start eid unit store0 store1))) ≡ delivered k
