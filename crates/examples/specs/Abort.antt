@@ -3,7 +3,6 @@
 -- Assumes nothing.
 use Prim.Native.Nat.{ℕ}
 use mathlib.Core.Path.{_≡_, refl}
-use mathlib.Core.Bool.{true}
 use mathlib.Core.List.{List, [], _∷_}
 use lib.ListN.{getD, take, replicate}
 use Rattle.crc32c.specs.Crc32c.{crc32c, reflect, register, steps, step as stepCrc}
@@ -13,8 +12,7 @@ use Rattle.mctp.specs.Gather.{joinRefusal}
 use Rattle.nvme_mi.specs.Message.{commandFault, controlFault}
 use Rattle.nvme_mi.specs.Check.{checkRight, withCheck}
 use Rattle.nvme_mi.specs.Response.{response}
-use Rattle.machine.specs.State.{ticket}
-use Rattle.machine.specs.Calls.{receive, declare, step}
+use Rattle.machine.specs.Calls.{receive, step}
 use Rattle.machine.specs.History.{History, phaseAt, isAbort, run, start}
 use Rattle.machine.specs.Demands.{isProcess}
 use Rattle.machine.specs.Replies.{replyFate}
@@ -23,8 +21,9 @@ use Rattle.controller.specs.Send.{primitiveTo}
 use Rattle.controller.specs.Receive.{receiveSays, received}
 use Rattle.controller.specs.declared.Awaiting.the-variants.{Awaited}
 use Rattle.round_trip.specs.Abort.{abortOf}
-use Rattle.examples.specs.Examples.{mi-20, taking, answer}
+use Rattle.examples.specs.Examples.{answer}
 use Rattle.examples.specs.Runs.{zeros}
+use Rattle.examples.specs.Premises.{stoppable}
 use Rattle.examples.specs.Exchange.{controller, yes, said, polls, replyIn}
 
 -- an Abort of slot 0 under tag 2, built by the requester
@@ -34,10 +33,6 @@ abort-0 = 1 ∷ 8 ∷ 9 ∷ 0xCA ∷ 0x84 ∷ 0 ∷ 0 ∷ 0 ∷ 2 ∷ 0x5A ∷ 0
 pub abort-built : take 16 (primitiveTo controller 8 2 (abortOf 0 0x5A 0) (replicate 16 0) .buffer) ≡ abort-0
 unfolding primitiveTo cutPacket withCheck crc32c reflect register steps stepCrc
 abort-built = refl
-
--- a command is taken, and declared to be one that can still be stopped
-pub stoppable : History
-stoppable = run (mi-20 ∷ taking ∷ declare 0 (ticket 1) true ∷ []) (start 8 64 zeros zeros)
 
 -- the requester awaits EID 8 under tag 2
 abbrev awaiting : Side
@@ -62,5 +57,5 @@ pub abort-read : shown stoppable
     ∷ (2 ∷ 12 ∷ [])
     ∷ (1 ∷ [])
     ∷ []
-unfolding stoppable step replyFate run start received readHeader joinRefusal cutPacket commandFault controlFault response withCheck checkRight crc32c reflect register steps stepCrc
+unfolding step replyFate run start received readHeader joinRefusal cutPacket commandFault controlFault response withCheck checkRight crc32c reflect register steps stepCrc
 abort-read = refl

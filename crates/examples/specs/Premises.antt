@@ -47,7 +47,7 @@ abbrev declaring : Bool → Call
 declaring can = declare 0 (ticket 1) can
 
 -- it was declared that it can; and that it no longer can
-abbrev stoppable : History
+abbrev pub stoppable : History
 stoppable = run (mi-20 ∷ taking ∷ declaring true ∷ []) new
 
 abbrev begun : History

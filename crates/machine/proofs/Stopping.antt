@@ -1,5 +1,5 @@
--- Whether a taken command can still be stopped: what the state has of it, what an Abort reports, and that a command which is told as stopped had no
--- effect and stays stopped.
+-- Whether a taken command can still be stopped: what the state has of it, what an Abort reports, and that a command which is told as stopped has no
+-- leave to begin and gets none.
 -- Assumes nothing.
 use Prim.Native.Nat.{ℕ, _%_, _≤_}
 use mathlib.Core.Path.{_≡_, refl, sym, ap, _∙_}

@@ -90,8 +90,8 @@ AbortTells =
 
 -- ---- a command that was told as stopped
 
--- why a command of slot i that is in Process after the calls xs has had no effect: no take gave its ticket, or its taker's last word is that it can
--- still be stopped
+-- why a command of slot i that is in Process after the calls xs is told as one with no effect: no take gave its ticket, or its taker's last word is
+-- that it can still be stopped
 pub data NoEffect (first : History) (i : ℕ) (xs : List Call) : Type 0 where
   never-taken : run xs first .trace i .takes ≡ 0 → NoEffect first i xs
   still-can : DeclaredBy first i xs → NoEffect first i xs
