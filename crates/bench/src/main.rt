@@ -1,4 +1,6 @@
 // Prints what no script of calls can show: the published CRC-32C values, and a ticket count that goes back to 0.
+#![tactic(auto)]
+
 ghost use Rattle.machine.specs.Valid.{Valid};
 
 use machine::sizes::{LEAST_UNIT, STORE_SIZE};

@@ -1,4 +1,6 @@
 // The controller's end: a requester's state, and what its calls answer. What every call answers and leaves is defined in specs/.
+#![tactic(auto)]
+
 pub mod answers;
 
 use machine::Assembly;

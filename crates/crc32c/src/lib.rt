@@ -1,4 +1,6 @@
 // CRC-32C, the integrity check of a message.
+#![tactic(auto)]
+
 mod table;
 
 ghost use Rattle.std.specs.Prelude.{◌≡◌};

@@ -2,6 +2,8 @@
 // a board would have it, behind a bridge that carries 250 bytes. A command goes over in two packets, is taken, read and completed, with a declaration
 // at each step that an Abort would have to know of, and its response comes back in two. A control primitive asks for a slot's state. Then a command
 // whose sender falls silent is given up by a timeout, and a reset ends it. It prints each answer, and the lengths of messages and packets.
+#![tactic(auto)]
+
 ghost use Rattle.std.specs.Prelude.{◌<◌, ◌≤◌};
 ghost use Rattle.machine.specs.Valid.{Valid};
 ghost use Rattle.controller.specs.State.{Valid as ValidRequester};

@@ -1,4 +1,6 @@
 // Completing a command that was taken, and the timeout of one that is being gathered.
+#![tactic(auto)]
+
 ghost use Rattle.std.specs.Prelude.{◌≡◌, ◌<◌, length};
 ghost use Rattle.machine.specs.State.{world, outcome};
 ghost use Rattle.machine.specs.Valid.{Valid};

@@ -1,4 +1,6 @@
 // What the log program does with one record: calling the endpoint, and the line that it prints.
+#![tactic(auto)]
+
 ghost use Rattle.std.specs.Prelude.{◌≡◌, true, List, ℕ, ◌≤◌, length};
 ghost use Rattle.lent.specs.Bytes;
 ghost use Rattle.machine.specs.Finish.{take_says};

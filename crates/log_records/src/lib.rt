@@ -1,4 +1,6 @@
 // The bytes of a log: a record's head, and the line that answers a record.
+#![tactic(auto)]
+
 ghost use Rattle.std.specs.Prelude.{◌≡◌, [], ◌∷◌, ◌+◌, ◌*◌, ◌≤◌, ◌<◌, length};
 ghost use Rattle.lent.specs.Bytes;
 ghost use Rattle.log_records.specs.Records;

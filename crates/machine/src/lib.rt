@@ -1,4 +1,6 @@
 // The endpoint's state, and what its calls answer. The machine itself, what every call answers and leaves, is defined in specs/.
+#![tactic(auto)]
+
 pub mod answers;
 pub mod flags;
 pub mod sizes;

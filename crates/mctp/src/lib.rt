@@ -1,5 +1,7 @@
 // MCTP packets (DSP0236): the header read and written, a message cut into packets, packets joined to a message.
 // The unit, the largest payload of a packet, and the direction, bit TO, are arguments throughout; what an end is set up with is tested here.
+#![tactic(auto)]
+
 ghost use Rattle.std.specs.Prelude.{◌≡◌, ◌++◌, min, ◌+◌, ◌-◌, ◌*◌, ◌≤◌, ◌<◌, length, drop};
 ghost use Rattle.mctp.specs.Setup.{setup_refusal};
 ghost use Rattle.mctp.specs.Header;

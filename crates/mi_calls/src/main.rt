@@ -1,6 +1,8 @@
 // The calls program: reads records on standard input, each a call of the endpoint or of the requester with all its arguments, and prints a line for
 // each. Each line is written before the next record is read, so that a pipe can be used live. The contracts keep the invariants of both ends; what is
 // printed is compared with the second program.
+#![tactic(auto)]
+
 mod buffer;
 mod line;
 mod look;

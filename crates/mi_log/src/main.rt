@@ -1,5 +1,7 @@
 // The log program: reads records on standard input, and prints a line for each. `refill` reads and `with_room` writes; all between them is in
 // `turn`. What a record does is in `log`. A read or a write that fails ends the run, and is told on standard error.
+#![tactic(auto)]
+
 ghost use Rattle.std.specs.Prelude.{◌≡◌, true, List, ◌++◌, ℕ, ◌+◌, ◌≤◌, length, take, drop, replicate};
 ghost use Rattle.log_records.specs.Records.{head_size, line_room, is_record};
 ghost use Rattle.machine.specs.Wire.{store_size};

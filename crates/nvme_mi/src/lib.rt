@@ -1,4 +1,6 @@
 // NVMe-MI messages: the header's fields, the integrity check, the tests of a whole message, responses.
+#![tactic(auto)]
+
 ghost use Rattle.std.specs.Prelude.{◌≡◌, [], ◌∷◌, ◌++◌, ◌+◌, ◌≤◌, ◌<◌, length, take, drop};
 ghost use Rattle.nvme_mi.specs.Message.{message_header, is_known, shortest, command_fault, control_fault};
 ghost use Rattle.nvme_mi.specs.Check.{check_right, word_at, with_check};

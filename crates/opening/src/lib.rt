@@ -1,4 +1,6 @@
 // What a packet's bytes say, at either end: a message's first packet, and a message whose bytes are in a store.
+#![tactic(auto)]
+
 ghost use Rattle.std.specs.Prelude.{◌≡◌, ◌≤◌, length};
 ghost use Rattle.opening.specs.Opening;
 ghost use Rattle.opening.specs.Opening.{joined_in};

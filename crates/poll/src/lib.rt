@@ -1,4 +1,6 @@
 // "Polling" of document 01: what goes next.
+#![tactic(auto)]
+
 ghost use Rattle.std.specs.Prelude.{◌≡◌, ◌≤◌, length};
 ghost use Rattle.machine.specs.State.{world};
 ghost use Rattle.machine.specs.Wire.{store_size, packet_room};

@@ -1,4 +1,6 @@
 // Handing out one packet: the control reply, or the next of a response.
+#![tactic(auto)]
+
 ghost use Rattle.std.specs.Prelude.{◌≡◌, ◌*◌, ◌≤◌, ◌<◌, length};
 ghost use Rattle.machine.specs.State.{world};
 ghost use Rattle.mctp.specs.Setup.{most_unit};

@@ -1,4 +1,6 @@
 // Receiving one packet, in document 01's order: the header, then the first packet of a message or a later one, then its slot.
+#![tactic(auto)]
+
 ghost use Rattle.std.specs.Prelude.{◌≡◌, List, ℕ, ◌≤◌, ◌<◌, length};
 ghost use Rattle.machine.specs.State.{world, outcome};
 ghost use Rattle.machine.specs.Wire.{store_size};

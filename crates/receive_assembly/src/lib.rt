@@ -1,4 +1,6 @@
 // Which slot gathers under a source and a message tag, and how an assembly ends.
+#![tactic(auto)]
+
 ghost use Rattle.std.specs.Prelude.{◌≡◌, ◌<◌};
 ghost use Rattle.machine.specs.State.{slot_at, with_slot, with_phase};
 ghost use Rattle.machine.specs.declared.Phase.{Phase};

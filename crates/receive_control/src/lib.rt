@@ -1,4 +1,6 @@
 // "Control primitives" of document 01. A primitive acts on the whole at once, and its reply waits in the state.
+#![tactic(auto)]
+
 ghost use Rattle.std.specs.Prelude.{◌≡◌, ◌≤◌, ◌<◌, ◌&&◌, eqb, length};
 ghost use Rattle.machine.specs.State.{held_in};
 ghost use Rattle.machine.specs.Control;

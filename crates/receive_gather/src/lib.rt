@@ -1,5 +1,7 @@
 // Gathering a command in its slot: a packet's payload behind the bytes so far, and the command once it is whole. `store` is the slot's; what is
 // promised holds whatever the other one holds.
+#![tactic(auto)]
+
 ghost use Rattle.std.specs.Prelude.{◌≡◌, List, ℕ, ◌+◌, ◌≤◌, ◌<◌, length, take};
 ghost use Rattle.machine.specs.State.{world, outcome};
 ghost use Rattle.machine.specs.Wire.{store_size};

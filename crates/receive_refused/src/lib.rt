@@ -1,4 +1,6 @@
 // What a refusal of Receiving leaves: its flag.
+#![tactic(auto)]
+
 ghost use Rattle.std.specs.Prelude.{◌≡◌, List, ℕ, ◌<◌};
 ghost use Rattle.machine.specs.State.{world, outcome};
 ghost use Rattle.machine.specs.Receive;

@@ -1,5 +1,7 @@
 // The requester's five calls. Each is proved equal to its definition in `controller`, and its only premise is the invariant of the state, which setup
 // gives and every call keeps. A call gets the state by value and hands back the next one; the store and the buffer are lent.
+#![tactic(auto)]
+
 ghost use Rattle.std.specs.Prelude.{◌≡◌};
 ghost use Rattle.controller.specs.State.{Valid};
 ghost use Rattle.controller.specs.Await.{was_set_up, now_awaits};

@@ -1,4 +1,6 @@
 // The requester receives one packet, as the endpoint does with TO and ROR turned round: the header, then the first packet of a message or a later one.
+#![tactic(auto)]
+
 ghost use Rattle.std.specs.Prelude.{◌≡◌, List, ℕ, ◌+◌, ◌≤◌, length, take};
 ghost use Rattle.opening.specs.Opening.{joined_in};
 ghost use Rattle.machine.specs.Wire.{store_size};

@@ -1,4 +1,6 @@
 // The controller's packets: a command cut into them, and a control primitive in one.
+#![tactic(auto)]
+
 ghost use Rattle.std.specs.Prelude.{◌≡◌, ◌++◌, ◌≤◌, ◌<◌, length, drop};
 ghost use Rattle.mctp.specs.Cut;
 ghost use Rattle.mctp.specs.Cut.{end_to_end};

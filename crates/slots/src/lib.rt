@@ -1,4 +1,6 @@
 // Small steps on a slot, on the endpoint and on the lent stores that several calls share.
+#![tactic(auto)]
+
 ghost use Rattle.std.specs.Prelude.{◌≡◌, not, ◌||◌, ◌<◌, eqb};
 ghost use Rattle.lent.specs.Choice.{if◌then◌else◌};
 ghost use Rattle.machine.specs.State;

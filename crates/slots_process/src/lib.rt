@@ -1,4 +1,6 @@
 // Entering Process, and the response that a slot then gets. `store` is the slot's; what is promised holds whatever the other one holds.
+#![tactic(auto)]
+
 ghost use Rattle.std.specs.Prelude.{◌≡◌, ℕ, ◌+◌, ◌<◌, ◌≤◌, List, length};
 ghost use Rattle.machine.specs.Wire.{store_size};
 ghost use Rattle.machine.specs.Process;

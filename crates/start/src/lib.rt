@@ -1,4 +1,6 @@
 // Setup and reset.
+#![tactic(auto)]
+
 ghost use Rattle.std.specs.Prelude.{◌≡◌};
 ghost use Rattle.machine.specs.State;
 ghost use Rattle.machine.specs.Finish;

@@ -1,4 +1,6 @@
 // Taking a command, reading it, and declaring whether it can still be stopped.
+#![tactic(auto)]
+
 ghost use Rattle.std.specs.Prelude.{◌≡◌, true, ◌<◌, length};
 ghost use Rattle.machine.specs.State.{world};
 ghost use Rattle.machine.specs.Wire.{store_size};
