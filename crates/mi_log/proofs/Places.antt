@@ -16,10 +16,10 @@ use Rattle.lent.proofs.Stores.{rest}
 use Rattle.lent.proofs.Choice.{if_ind, false_true, and_both}
 use Rattle.log_records.specs.Records.{head_size, line_room, headed}
 use Rattle.log_records.specs.declared.Head.{Head}
-use Rattle.log.specs.Log.{Recorded, Told}
-use Rattle.log.specs.Whole.{bad_line, last_line}
-use Rattle.log.specs.declared.Session.{Session}
-use Rattle.log.specs.declared.Answer.{Answer}
+use Rattle.log_session.specs.Log.{Recorded, Told}
+use Rattle.log_session.specs.Whole.{bad_line, last_line}
+use Rattle.log_session.specs.declared.Session.{Session}
+use Rattle.log_session.specs.declared.Answer.{Answer}
 use Rattle.mi_log.specs.Run.{Held, held, run_of, unread, over, asking, missed, after_record, turned_by, turned, is_asking, refilled, must_write, flushed, Within, Roomy, Printed, printed_to, printed_at, Refilled}
 use Rattle.mi_log.specs.declared.Run.{Run}
 

@@ -13,10 +13,10 @@ use Rattle.log_records.specs.Records.{headed}
 use Rattle.log_records.specs.declared.Head.{Head}
 use Rattle.log_records.specs.declared.Head.TheVariants.{Bad, More, Record}
 use Rattle.log_records.proofs.Heads.{Whole, whole, decided}
-use Rattle.log.specs.Log.{at_start, Recorded, recorded}
-use Rattle.log.specs.Whole.{bad_line, last_line, going_on, by_head, owed, logged}
-use Rattle.log.specs.declared.Session.{Session}
-use Rattle.log.proofs.Whole.{owed_by}
+use Rattle.log_session.specs.Log.{at_start, Recorded, recorded}
+use Rattle.log_session.specs.Whole.{bad_line, last_line, going_on, by_head, owed, logged}
+use Rattle.log_session.specs.declared.Session.{Session}
+use Rattle.log_session.proofs.Whole.{owed_by}
 use Rattle.machine.specs.Wire.{store_size}
 use Rattle.mi_log.specs.Run.{Held, held, run_of, over, after_record, turned_by, turned, is_asking, refilled, must_write, flushed}
 use Rattle.mi_log.proofs.Places.{not_read, not_written}

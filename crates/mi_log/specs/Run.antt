@@ -6,10 +6,10 @@ use Rattle.lent.specs.Choice.{if◌then◌else◌}
 use Rattle.log_records.specs.Records.{head_size, headed, line_room}
 use Rattle.log_records.specs.declared.Head.{Head}
 use Rattle.log_records.specs.declared.Head.TheVariants.{Bad, More, Record}
-use Rattle.log.specs.Log.{Recorded, recorded}
-use Rattle.log.specs.Whole.{bad_line, last_line}
-use Rattle.log.specs.declared.Session.{Session}
-use Rattle.log.specs.declared.Answer.{Answer}
+use Rattle.log_session.specs.Log.{Recorded, recorded}
+use Rattle.log_session.specs.Whole.{bad_line, last_line}
+use Rattle.log_session.specs.declared.Session.{Session}
+use Rattle.log_session.specs.declared.Answer.{Answer}
 use Rattle.machine.specs.Valid.{Valid}
 use Rattle.mi_log.specs.declared.Run.{Run}
 

@@ -5,8 +5,8 @@ use Rattle.lent.specs.Choice.{if◌then◌else◌}
 use Rattle.machine.specs.Wire.{store_size}
 use Rattle.log_records.specs.Records.{headed}
 use Rattle.log_records.specs.declared.Head.TheVariants.{More}
-use Rattle.log.specs.Log.{at_start}
-use Rattle.log.specs.Whole.{owed, logged}
+use Rattle.log_session.specs.Log.{at_start}
+use Rattle.log_session.specs.Whole.{owed, logged}
 use Rattle.mi_log.specs.Run.{Held, held, run_of, turned, is_asking, refilled, must_write, flushed}
 
 -- ---- what is due

@@ -1,17 +1,17 @@
 // The log program: reads records on standard input, and prints a line for each. `refill` reads and `with_room` writes; all between them is in
-// `turn`. What a record does is in `log`. A read or a write that fails ends the run, and is told on standard error.
+// `turn`. What a record does is in `log_session`. A read or a write that fails ends the run, and is told on standard error.
 #![tactic(auto)]
 
 ghost use Rattle.std.specs.Prelude.{◌≡◌, true, List, ◌++◌, ℕ, ◌+◌, ◌≤◌, length, take, drop, replicate};
 ghost use Rattle.log_records.specs.Records.{head_size, line_room, is_record};
 ghost use Rattle.machine.specs.Wire.{store_size};
 ghost use Rattle.machine.specs.Valid.{Valid};
-ghost use Rattle.log.specs.Log.{recorded};
-ghost use Rattle.log.specs.Whole.{bad_line};
+ghost use Rattle.log_session.specs.Log.{recorded};
+ghost use Rattle.log_session.specs.Whole.{bad_line};
 ghost use Rattle.mi_log.specs.Run.{unread, held, after_record, over, missed, turned, flushed, Within, Roomy, printed_to, printed_at, Refilled};
 ghost use Rattle.mi_log.specs.Whole.{Ran};
 
-use log::{Answer, Session};
+use log_session::{Answer, Session};
 use log_records::{HEAD_SIZE, Head, LINE_ROOM};
 use machine::sizes::STORE_SIZE;
 
@@ -154,7 +154,7 @@ fn printed(
     ensures length_le_line_room { (result.length ≤ line_room) × Valid result.session.endpoint }
 {
     let line = &mut out[put..];
-    log::record(session, store0, store1, tag, body, line)
+    log_session::record(session, store0, store1, tag, body, line)
 }
 
 // A whole record.
@@ -216,7 +216,7 @@ fn all(buf: &mut [u8], out: &mut [u8], store0: &mut [u8], store1: &mut [u8]) -> 
     ensures put_in_bounds { result.put ≤ length out.new }
     ensures ran { Ran (held result (unread result buf.new) out.new store0.new store1.new) }
 {
-    let session = log::begin();
+    let session = log_session::begin();
     let mut r = Run {
         at: 0,
         end: 0,

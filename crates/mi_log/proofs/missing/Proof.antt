@@ -4,7 +4,7 @@ use mathlib.Core.Path.{◌∙◌}
 use native.Mathlib.Omega.{arith}
 use borrow.Author.Rules.{rules}
 use borrow.Author.Tests.{not-true, not-false}
-use Rattle.log.specs.Whole.{bad_line}
+use Rattle.log_session.specs.Whole.{bad_line}
 use Rattle.mi_log.specs.Run.{held}
 use Rattle.mi_log.proofs.Places.{cut, silent, missed_more, missed_ended}
 use Rattle.mi_log.proofs.missing.Statement.{statement}

@@ -5,7 +5,7 @@ use native.Mathlib.Nat.{le_refl}
 use native.Mathlib.Omega.{arith}
 use lib.ListN.{length-take, length-drop}
 use borrow.Author.Rules.{rules}
-use Rattle.log.specs.Whole.{bad_line}
+use Rattle.log_session.specs.Whole.{bad_line}
 use Rattle.log_records.proofs.Heads.{whole}
 use Rattle.log_records.specs.declared.Head.TheVariants.{Bad, More, Record}
 use Rattle.mi_log.specs.Run.{Held, held, unread}
