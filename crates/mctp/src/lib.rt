@@ -4,8 +4,7 @@
 
 ghost use Rattle.std.specs.Prelude.{◌≡◌, ◌++◌, min, ◌+◌, ◌-◌, ◌*◌, ◌≤◌, ◌<◌, length, drop};
 ghost use Rattle.mctp.specs.Setup.{setup_refusal};
-ghost use Rattle.mctp.specs.Header;
-ghost use Rattle.mctp.specs.Header.{read_header, read_says, header_numbers, header_bytes};
+ghost use Rattle.mctp.specs.Header.{bit, read_header, read_says, header_numbers, header_bytes};
 ghost use Rattle.mctp.specs.Cut.{packets, packet};
 ghost use Rattle.mctp.specs.Gather.{is_cut, join_refusal};
 
@@ -175,7 +174,7 @@ pub fn packet_count(unit: usize, n: usize) -> usize
 }
 
 fn bit(b: bool, value: u8) -> u8
-    ensures { (result ≡ Header.bit b value) × (result ≤ value) }
+    ensures { (result ≡ bit b value) × (result ≤ value) }
 {
     if b { value } else { 0 }
 }

@@ -1,23 +1,15 @@
--- `mctp::write_packet` meets its contract: the part put behind the header is the payload, and what is left fits one unit where the
--- packet is the last.
--- Assumes nothing.
-use Prim.Native.Nat.{ℕ, min, ◌+◌, ◌-◌, ◌*◌}
-use mathlib.Core.Path.{◌≡◌, ◌∙◌}
-use mathlib.Core.Bool.{Bool}
-use mathlib.Core.List.{List, ◌++◌}
-use native.Mathlib.Omega.{arith}
+-- The part put behind the header is the payload, and what is left fits one unit where the packet is the last.
+use Rattle.std.proofs.Common.{◌≡◌, ◌++◌, min, ◌+◌, ◌-◌, ◌*◌, ℕ, Bool, List, length, take, drop, ◌∙◌, arith}
 use lib.Dec.{eqb}
-use lib.ListN.{length, take, drop, take-append-drop}
+use lib.ListN.{take-append-drop}
 use lib.Seq.{take-append_seam}
-use borrow.Author.Rules.{rules}
 use Rattle.lent.specs.Bytes.{put}
 use Rattle.lent.proofs.Stores.{put_behind}
 use Rattle.mctp.specs.Header.{header_bytes}
 use Rattle.mctp.specs.Cut.{packets, payload, packet}
 use Rattle.mctp.specs.declared.Route.{Route}
 use Rattle.mctp.proofs.Laws.{payload_length, last_left}
-use Rattle.mctp.proofs.write_packet.Statement.{statement}
-use Rattle.mctp.proofs.write_packet.Tie as tie
+use Rattle.mctp.proofs.write_packet.Goals as goal
 
 -- a part that is as long as the payload is the payload
 part : (at n unit : ℕ) (l : List ℕ) → n ≡ length (take unit l) → take (at + n - at) l ≡ take unit l
@@ -39,29 +31,8 @@ module _ (unit k n : ℕ) (route : Route) (message out front exit : List ℕ) (e
         whole ∙ rw (header, last, part (unit * k) n unit (drop (unit * k) message) e, e) (put_behind h out (payload unit message k)),
       )
 
-returns : tie.Need-returns
+pub returns : goal.returns
 returns c =
-    let part_put = c.before.before in
-    let header_written = part_put.before.before.before.before.before in
-    let size_known = header_written.before.before in
-    let s = size_known.before.before.before in
-    let a = s.args in
-    written a.unit a.k size_known.smaller.result a.route a.message.now a.out.now _ _ _ size_known.smaller.ensures
-    (last_left a.unit (length a.message.now) a.k s.requires.0 s.requires.1) header_written.write-header.ensures part_put.put.ensures
-
-pub write_packet_spec : {M : Type 1} → statement M
-write_packet_spec =
-    tie.close
-    (tie.spec
-    (λ c. search rules)
-    (λ c. search rules)
-    (λ c κs. search rules)
-    (λ c κs. search rules)
-    (λ c. search rules)
-    (λ c. search rules)
-    (λ c. search rules)
-    (λ c. search rules)
-    (λ c κs. search rules)
-    (λ c. search rules)
-    (λ c. search rules)
-    returns)
+    let a = c.args in
+    let w = written a.unit a.k c.smaller-n.result a.route a.message.now a.out.now _ _ _ c.smaller-n.ensures (last_left a.unit (length a.message.now) a.k c.requires.0 c.requires.1) c.write_header.ensures c.put.ensures in
+    record { value = w.0; out_after = w.1 }
