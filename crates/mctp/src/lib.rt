@@ -55,7 +55,7 @@ const SHORTEST_PACKET: usize = HEADER_SIZE + 1;
 const VERSION: u8 = 1;
 
 // The fields of a packet's header that a receiver uses.
-#[derive(Drop)]
+#[derive(Clone, Copy)]
 pub struct Header {
     pub source: u8,
     pub som: bool,
@@ -65,14 +65,14 @@ pub struct Header {
 }
 
 // A packet is either refused by number or read into its fields.
-#[derive(Drop)]
+#[derive(Clone, Copy)]
 pub enum Read {
     Refused(u8),
     Packet(Header),
 }
 
 // What all packets of a message have in common: destination and source EID, bit TO, message tag.
-#[derive(Drop)]
+#[derive(Clone, Copy)]
 pub struct Route {
     pub destination: u8,
     pub source: u8,

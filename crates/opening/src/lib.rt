@@ -9,7 +9,7 @@ use mctp::Header;
 use nvme_mi::{CONTROL, CONTROL_SIZE, MESSAGE_TYPE, SMALLEST};
 
 // A message's first packet: refused by number, a control message, or the first of another, which is a command or its response.
-#[derive(Drop)]
+#[derive(Clone, Copy)]
 pub enum First {
     Refused(u8),
     Control,
@@ -17,7 +17,7 @@ pub enum First {
 }
 
 // A message's bytes so far: more to come, a wrong check, or whole.
-#[derive(Drop)]
+#[derive(Clone, Copy)]
 pub enum Joined {
     More,
     Wrong,
