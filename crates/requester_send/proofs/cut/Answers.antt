@@ -18,21 +18,18 @@ unfolding cut_to
 passed r destination tag message buffer low high small =
     rw (le-ltb (length message) 8 low, le-ltb 4224 (length message) high, le-ltb 7 tag small)
 
--- src/lib.rt:70:9
 pub returns-then-buffer-n-clause-buffer_after : goal.returns-then-buffer-n-clause-buffer_after
 returns-then-buffer-n-clause-buffer_after c =
     let a = c.args in
     rw (passed a.requester a.destination a.tag a.message.now a.buffer.now (omega arith) (omega arith) (omega arith))
     (too_short _ _ (cut_length _ _ _ (omega arith)) (omega arith))
 
--- src/lib.rt:73:25
 pub write_cut-requires-clause-message_len_bound : goal.write_cut-requires-clause-message_len_bound
 write_cut-requires-clause-message_len_bound c =
     let a = c.args in
     let pos : 0 < a.requester.unit = omega arith in
     (omega arith, omega (arith, cut_length a.requester.unit c.route_from-route.result a.message.now pos))
 
--- src/lib.rt:52:1
 pub returns-clause-result_value : goal.returns-clause-result_value
 returns-clause-result_value c =
     let a = c.args in

@@ -27,7 +27,6 @@ one_packet unit route message out₀ out part k at n at-is out-is n-is part_is =
       rw (part_is, n-is, put_part out (packet unit route message k) at, out-is, at-is, put_behind, add-one k, more),
     )
 
--- src/lib.rt:43:13
 pub write_packet-n-requires : goal.write_packet-n-requires
 write_packet-n-requires c =
     let a = c.args in
@@ -37,7 +36,6 @@ write_packet-n-requires c =
     omega (arith, one, ends_length a.unit a.route a.message.now c.loop-k.k, cut_length a.unit a.route a.message.now pos) in
     (pos, omega arith, simp (length-take, length-drop) (omega (arith, room)))
 
--- src/lib.rt:42:5
 pub loop-k-preserved : goal.loop-k-preserved
 loop-k-preserved c =
     let a = c.args in
