@@ -191,7 +191,6 @@ fn later(requester: Requester, store: &mut [u8], header: Header, payload: &[u8])
 }
 
 // Receives one packet. 40 a store of another length; 10 to 23 a refusal; more to come; or a response or a control reply, with its length.
-#[tactic(auto, unfolding(controller::specs::Receive::received))]
 pub fn receive(requester: Requester, store: &mut [u8], packet: &[u8]) -> ReceiveDone
     requires { Valid requester }
     ensures store_after { outcome result.answer (side result.requester store.new) ≡ received (side requester store.old) packet.now }
