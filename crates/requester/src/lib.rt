@@ -14,6 +14,7 @@ pub use requester_send::{cut, primitive};
 
 // A new requester with this EID, from 8 to 254, else 38, and this unit, from 64 to 250, else 39. It awaits nothing. Beside 38 and 39 it has EID 8 and
 // the unit 64.
+#[tactic(auto, unfolding(controller::specs::Await::was_set_up))]
 pub fn setup(eid: u8, unit: usize) -> Done
     ensures value { result ≡ was_set_up eid unit }
     ensures valid { Valid result.requester }
@@ -40,6 +41,7 @@ pub fn setup(eid: u8, unit: usize) -> Done
 }
 
 // Awaits a response from this source under this tag. An assembly ends. 41 a tag above 7.
+#[tactic(auto, unfolding(controller::specs::Await::now_awaits))]
 pub fn await_response(requester: Requester, source: u8, tag: u8) -> Done
     requires { Valid requester }
     ensures value { result ≡ now_awaits requester source tag }

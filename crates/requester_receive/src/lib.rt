@@ -101,6 +101,7 @@ fn landed(requester: Requester, store: &[u8], assembly: Assembly, eom: bool) -> 
 }
 
 // A response's packet that is not refused: its payload goes behind the bytes so far.
+#[tactic(auto, unfolding(controller::specs::Receive::gathered))]
 fn gathered(
     requester: Requester,
     store: &mut [u8],
@@ -137,6 +138,7 @@ fn replied(requester: Requester, store: &mut [u8], message: &[u8]) -> ReceiveDon
 }
 
 // SOM 1. An assembly with this source and tag has ended.
+#[tactic(auto, unfolding(controller::specs::Receive::first))]
 fn first(requester: Requester, store: &mut [u8], header: Header, message: &[u8]) -> ReceiveDone
     requires { (length store.old ≡ store_size) × (1 ≤ length message.now) × (length message.now ≤ store_size) × (8 ≤ requester.unit) }
     ensures { outcome result.answer (side result.requester store.new) ≡ Receive.first (side requester store.old) header message.now }
@@ -162,6 +164,7 @@ fn first(requester: Requester, store: &mut [u8], header: Header, message: &[u8])
 }
 
 // SOM 0.
+#[tactic(auto, unfolding(controller::specs::Receive::later, controller::specs::Receive::later_at))]
 fn later(requester: Requester, store: &mut [u8], header: Header, payload: &[u8]) -> ReceiveDone
     requires { Valid requester × (length store.old ≡ store_size) }
     ensures { outcome result.answer (side result.requester store.new) ≡ Receive.later (side requester store.old) header payload.now }

@@ -30,6 +30,7 @@ fn route_from(requester: Requester, destination: u8, tag: u8) -> Route
 }
 
 // Writes all packets of a message end to end to the front of `out`, and returns how many bytes they have. Bytes behind them stay.
+#[tactic(auto, unfolding(mctp::specs::Cut::cut))]
 fn write_cut(unit: usize, route: Route, message: &[u8], out: &mut [u8]) -> usize
     requires unit_nonzero { (0 < unit) × (unit ≤ most_unit) }
     requires message_len_bound { (length message.now ≤ store_size) × (length (end_to_end (Cut.cut unit route message.now)) ≤ length out.old) }
@@ -48,6 +49,7 @@ fn write_cut(unit: usize, route: Route, message: &[u8], out: &mut [u8]) -> usize
 
 // Cuts a command of 8 to 4,224 bytes into packets that lie end to end at the front of `buffer`. 41 another size, or a tag above 7; 36 a buffer that is
 // too short for the packets.
+#[tactic(auto, unfolding(controller::specs::Send::cut_to))]
 pub fn cut(
     requester: Requester,
     destination: u8,
@@ -72,6 +74,7 @@ pub fn cut(
 }
 
 // A control primitive's message.
+#[tactic(auto, unfolding(controller::specs::Send::control_request))]
 fn control_request(primitive: Primitive) -> [u8; CONTROL_SIZE]
     ensures { result ≡ control_request primitive }
 {
@@ -87,6 +90,7 @@ fn control_request(primitive: Primitive) -> [u8; CONTROL_SIZE]
 }
 
 // Builds a control primitive as one packet at the front of `buffer`. 41 a tag above 7; 30 a slot above 1; 36 a buffer that is too short for the packet.
+#[tactic(auto, unfolding(controller::specs::Send::primitive_to))]
 pub fn primitive(
     requester: Requester,
     destination: u8,
