@@ -18,6 +18,7 @@ use receive_refused::refused;
 use slots::{ended, wrong_stores};
 
 // SOM 1. An assembly with this source and tag has ended.
+#[tactic(auto, unfolding(machine::specs::Receive::first))]
 fn first(
     endpoint: Endpoint,
     store0: &mut [u8],
@@ -47,6 +48,7 @@ fn first(
 }
 
 // Receives one packet. 40 a store of another length; 10 to 23 a refusal; 0 more to come; 1 command complete; 2 control done.
+#[tactic(auto, unfolding(machine::specs::Receive::received))]
 pub fn receive(endpoint: Endpoint, store0: &mut [u8], store1: &mut [u8], packet: &[u8]) -> Done
     requires { Valid endpoint }
     ensures store1_after { outcome result.answer (world result.endpoint store0.new store1.new) ≡ received (world endpoint store0.old store1.old) packet.now }

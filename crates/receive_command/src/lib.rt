@@ -18,6 +18,7 @@ use receive_refused::{refused, refused_busy};
 use slots::{dropped, is_idle, phase_of};
 
 // A command's first packet.
+#[tactic(auto, unfolding(machine::specs::Receive::first_command))]
 pub fn first_command(
     endpoint: Endpoint,
     store0: &mut [u8],
@@ -36,6 +37,7 @@ pub fn first_command(
 }
 
 // SOM 0, for the slot that gathers under this source and tag: 22, 16 and 23 send it to Idle.
+#[tactic(auto, unfolding(machine::specs::Receive::later_at))]
 fn later_at(
     endpoint: Endpoint,
     store0: &mut [u8],
@@ -57,6 +59,7 @@ fn later_at(
 }
 
 // SOM 0.
+#[tactic(auto, unfolding(machine::specs::Receive::later))]
 pub fn later(
     endpoint: Endpoint,
     store0: &mut [u8],

@@ -41,6 +41,7 @@ fn landed(endpoint: Endpoint, store: &mut [u8], slot: usize, assembly: Assembly,
 }
 
 // A command's packet that is not refused: its payload goes behind the bytes so far in the slot's store.
+#[tactic(auto, unfolding(machine::specs::Receive::gathered))]
 fn gathered(
     endpoint: Endpoint,
     store: &mut [u8],
@@ -63,6 +64,7 @@ fn gathered(
 }
 
 // `gathered` in the slot's store, which is chosen here for the whole call.
+#[tactic(auto, unfolding(machine::specs::Receive::gathered))]
 pub fn gathered_in(
     endpoint: Endpoint,
     store0: &mut [u8],
