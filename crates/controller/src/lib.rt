@@ -9,14 +9,14 @@ use machine::Assembly;
 pub const LAST_TAG: u8 = 7;
 
 // Where a response comes from, and under which message tag.
-#[derive(Drop)]
+#[derive(Clone, Copy)]
 pub struct Key {
     pub source: u8,
     pub tag: u8,
 }
 
 // What is awaited: nothing, a response of which no packet is gathered, or the rest of one.
-#[derive(Drop)]
+#[derive(Clone, Copy)]
 pub enum Awaiting {
     Nothing,
     Awaited(Key),
@@ -24,7 +24,7 @@ pub enum Awaiting {
 }
 
 // `unit` is the largest payload of a packet.
-#[derive(Drop)]
+#[derive(Clone, Copy)]
 pub struct Requester {
     pub eid: u8,
     pub unit: usize,
@@ -32,14 +32,14 @@ pub struct Requester {
 }
 
 // What setup and awaiting answer by number, and the state that they leave.
-#[derive(Drop)]
+#[derive(Clone, Copy)]
 pub struct Done {
     pub answer: u8,
     pub requester: Requester,
 }
 
 // A control primitive: its slot, opcode, TAG and CPSP.
-#[derive(Drop)]
+#[derive(Clone, Copy)]
 pub struct Primitive {
     pub slot: usize,
     pub opcode: u8,
@@ -48,14 +48,14 @@ pub struct Primitive {
 }
 
 // Cutting a command, and building a control primitive: refused by number, or so many bytes at the buffer's front.
-#[derive(Drop)]
+#[derive(Clone, Copy)]
 pub enum SendAnswer {
     Refused(u8),
     Written(usize),
 }
 
 // Receiving a packet: refused by number, more to come, or a message of this length at the store's front: a response, or a control reply.
-#[derive(Drop)]
+#[derive(Clone, Copy)]
 pub enum ReceiveAnswer {
     Refused(u8),
     More,
@@ -63,7 +63,7 @@ pub enum ReceiveAnswer {
     Control(usize),
 }
 
-#[derive(Drop)]
+#[derive(Clone, Copy)]
 pub struct ReceiveDone {
     pub answer: ReceiveAnswer,
     pub requester: Requester,

@@ -44,6 +44,7 @@ fn answered(
 
 // Completes the taken command of a slot. 40 a store of another length; 30 slot above 1; 31 not in Process, or its response is there; 32 ticket
 // not the slot's present one; 34 not taken; 35 body not 4 to 4,216 bytes; else 0.
+#[tactic(auto, unfolding(machine::specs::Finish::completed))]
 pub fn complete(
     endpoint: Endpoint,
     store0: &mut [u8],
@@ -79,6 +80,7 @@ fn is_receive(phase: Phase) -> bool
 }
 
 // Ends what a slot gathers, for the caller's clock. 30: no such slot; 37: the slot is not in Receive, or paused.
+#[tactic(auto, unfolding(machine::specs::Finish::timed_out))]
 pub fn timeout(endpoint: Endpoint, slot: usize) -> Done
     requires { Valid endpoint }
     ensures value { result ≡ timed_out endpoint slot }

@@ -11,7 +11,7 @@ use lib.Seq.{take-append_seam}
 use borrow.Author.Tests.{eq-eqb, ne_eqb, ltb-true, ltb-false, leb-true, le-leb, not-true}
 use Rattle.lent.specs.Choice.{if◌then◌else◌}
 use Rattle.lent.proofs.Choice.{if_ind, if_second, false_true, and_both, differ, not_and}
-use Rattle.mctp.specs.Cut.{packets, payload, packet}
+use Rattle.mctp.specs.Cut.{payload, packet}
 use Rattle.mctp.proofs.Laws.{payload_next}
 use Rattle.machine.specs.State.{World, slot_at, store_at, with_slot, with_endpoint, reply_sent, packet_sent}
 use Rattle.machine.specs.Wire.{packet_room}

@@ -4,8 +4,7 @@
 
 ghost use Rattle.std.specs.Prelude.{◌≡◌, ◌++◌, min, ◌+◌, ◌-◌, ◌*◌, ◌≤◌, ◌<◌, length, drop};
 ghost use Rattle.mctp.specs.Setup.{setup_refusal};
-ghost use Rattle.mctp.specs.Header;
-ghost use Rattle.mctp.specs.Header.{read_header, read_says, header_numbers, header_bytes};
+ghost use Rattle.mctp.specs.Header.{bit, read_header, read_says, header_numbers, header_bytes};
 ghost use Rattle.mctp.specs.Cut.{packets, packet};
 ghost use Rattle.mctp.specs.Gather.{is_cut, join_refusal};
 
@@ -56,7 +55,7 @@ const SHORTEST_PACKET: usize = HEADER_SIZE + 1;
 const VERSION: u8 = 1;
 
 // The fields of a packet's header that a receiver uses.
-#[derive(Drop)]
+#[derive(Clone, Copy)]
 pub struct Header {
     pub source: u8,
     pub som: bool,
@@ -66,14 +65,14 @@ pub struct Header {
 }
 
 // A packet is either refused by number or read into its fields.
-#[derive(Drop)]
+#[derive(Clone, Copy)]
 pub enum Read {
     Refused(u8),
     Packet(Header),
 }
 
 // What all packets of a message have in common: destination and source EID, bit TO, message tag.
-#[derive(Drop)]
+#[derive(Clone, Copy)]
 pub struct Route {
     pub destination: u8,
     pub source: u8,
@@ -175,7 +174,7 @@ pub fn packet_count(unit: usize, n: usize) -> usize
 }
 
 fn bit(b: bool, value: u8) -> u8
-    ensures { (result ≡ Header.bit b value) × (result ≤ value) }
+    ensures { (result ≡ bit b value) × (result ≤ value) }
 {
     if b { value } else { 0 }
 }

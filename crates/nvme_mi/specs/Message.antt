@@ -84,9 +84,9 @@ replay_opcode = 4
 
 -- "Control primitives": a primitive with this opcode, and whether its CPSP is 0. Of a Replay "Only CPSP 0 is taken".
 unfoldable pub control_fault : MessageHeader → ℕ → Bool → Fault
-control_fault header opcode no_parameter_lem =
+control_fault header opcode no_parameter =
     if header.meb then Parameter 2 0
     else if header.ciap then Parameter 2 1
     else if ltb replay_opcode opcode then Failure invalid_opcode
-    else if not no_parameter_lem && eqb opcode replay_opcode then Parameter 6 0
+    else if not no_parameter && eqb opcode replay_opcode then Parameter 6 0
     else NoFault

@@ -7,7 +7,7 @@ ghost use Rattle.nvme_mi.specs.Check.{check_right, word_at, with_check};
 ghost use Rattle.nvme_mi.specs.Response.{response, fault_body, success_body};
 
 // The fields of bytes 1 and 2 of a message. CSI is the command slot.
-#[derive(Drop)]
+#[derive(Clone, Copy)]
 pub struct MessageHeader {
     pub ror: bool,
     pub nmimt: u8,
@@ -17,7 +17,7 @@ pub struct MessageHeader {
 }
 
 // What is wrong with a whole message: a parameter, by its byte and bit, or another failure, by its status.
-#[derive(Drop)]
+#[derive(Clone, Copy)]
 pub enum Fault {
     NoFault,
     Parameter(u8, u8),

@@ -9,7 +9,7 @@ use mctp::Header;
 use nvme_mi::{CONTROL, CONTROL_SIZE, MESSAGE_TYPE, SMALLEST};
 
 // A message's first packet: refused by number, a control message, or the first of another, which is a command or its response.
-#[derive(Drop)]
+#[derive(Clone, Copy)]
 pub enum First {
     Refused(u8),
     Control,
@@ -17,7 +17,7 @@ pub enum First {
 }
 
 // A message's bytes so far: more to come, a wrong check, or whole.
-#[derive(Drop)]
+#[derive(Clone, Copy)]
 pub enum Joined {
     More,
     Wrong,
@@ -35,6 +35,7 @@ pub const NOT_TWELVE: u8 = 18;
 pub const CHECK_WRONG: u8 = 19;
 
 // The second table of "Receiving", for messages with this ROR: 15, 16, 17, 15, 18, 19.
+#[tactic(auto, unfolding(crate::specs::Opening::opened))]
 pub fn opened(unit: usize, ror: bool, header: Header, message: &[u8]) -> First
     requires { (1 ≤ length message.now) × (8 ≤ unit) }
     ensures { result ≡ Opening.opened unit ror header message.now }
@@ -65,6 +66,7 @@ pub fn opened(unit: usize, ror: bool, header: Header, message: &[u8]) -> First
 }
 
 // With EOM a message is checked whole.
+#[tactic(auto, unfolding(crate::specs::Opening::joined_in))]
 pub fn joined_in(message: &[u8], eom: bool) -> Joined
     ensures { result ≡ joined_in message.now eom }
 {

@@ -45,6 +45,7 @@ fn begun_or(i: usize, phase: Phase, other: Ready) -> Ready
 }
 
 // The slot that goes next: the one that has begun, else the one whose turn it is, else the other.
+#[tactic(auto, unfolding(machine::specs::Poll::chosen))]
 fn chosen(endpoint: Endpoint) -> Ready
     requires { endpoint.turn ≤ 1 }
     ensures { result ≡ Poll.chosen endpoint }
@@ -58,6 +59,7 @@ fn chosen(endpoint: Endpoint) -> Ready
 }
 
 // A command packet is ready only while neither slot is paused.
+#[tactic(auto, unfolding(machine::specs::Poll::ready))]
 fn ready(endpoint: Endpoint) -> Ready
     requires { endpoint.turn ≤ 1 }
     ensures { result ≡ Poll.ready endpoint }
@@ -71,6 +73,7 @@ fn ready(endpoint: Endpoint) -> Ready
 }
 
 // A control reply goes if the last packet was not control or no command packet is ready; else a command packet that is ready.
+#[tactic(auto, unfolding(machine::specs::Poll::ready))]
 fn polled_by(
     endpoint: Endpoint,
     store0: &[u8],
@@ -98,6 +101,7 @@ fn polled_by(
 }
 
 // Hands out the next packet, if there is one. 40: a store of another length; 36: the buffer is below the unit and four bytes.
+#[tactic(auto, unfolding(machine::specs::Poll::polled))]
 pub fn poll(endpoint: Endpoint, store0: &[u8], store1: &[u8], buffer: &mut [u8]) -> PollDone
     requires { Valid endpoint }
     ensures buffer_after { polled_to result.answer result.endpoint buffer.new ≡ polled (world endpoint store0.now store1.now) buffer.old }

@@ -42,6 +42,7 @@ fn after_packet(unit: usize, slot: Slot, outgoing: Outgoing) -> Slot
 }
 
 // Hands out the control reply that waits.
+#[tactic(auto, unfolding(machine::specs::Poll::sent_control))]
 pub fn sent_control(endpoint: Endpoint, buffer: &mut [u8]) -> PollDone
     requires { Valid endpoint × (packet_room endpoint ≤ length buffer.old) }
     ensures { polled_to result.answer result.endpoint buffer.new ≡ sent_control endpoint buffer.old }
@@ -61,6 +62,7 @@ pub fn sent_control(endpoint: Endpoint, buffer: &mut [u8]) -> PollDone
 
 // Hands out the next packet of the response at the front of `store`, which is the slot's. Of the other store the definition reads
 // nothing, so that it is asked with this one for both.
+#[tactic(auto, unfolding(machine::specs::Poll::sent_command))]
 fn sent_from(
     endpoint: Endpoint,
     store: &[u8],
@@ -89,6 +91,7 @@ fn sent_from(
 }
 
 // Hands out the next packet of the response at the front of the slot's store.
+#[tactic(auto, unfolding(machine::specs::Poll::sent_command))]
 pub fn sent_command(
     endpoint: Endpoint,
     store0: &[u8],

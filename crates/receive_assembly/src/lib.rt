@@ -43,6 +43,7 @@ fn ended_slot(source: u8, tag: u8, slot: Slot) -> Slot
 }
 
 // An assembly with this source and tag, in either slot, ends.
+#[tactic(auto, unfolding(machine::specs::Receive::end_assembly))]
 pub fn end_assembly(endpoint: Endpoint, source: u8, tag: u8) -> Endpoint
     ensures { result ≡ end_assembly endpoint source tag }
 {
@@ -66,6 +67,7 @@ fn holder_in(source: u8, tag: u8, i: usize, phase: Phase, other: Holder) -> Hold
 }
 
 // The slot in Receive with this source and tag.
+#[tactic(auto, unfolding(machine::specs::Receive::holder))]
 pub fn holder(endpoint: Endpoint, source: u8, tag: u8) -> Holder
     ensures { result ≡ Receive.holder endpoint source tag }
 {

@@ -52,6 +52,7 @@ fn resumed_slot(slot: Slot) -> Slot
 }
 
 // Resume: clears both flags.
+#[tactic(auto, unfolding(machine::specs::Control::resume))]
 fn resume(endpoint: Endpoint) -> Endpoint
     ensures { result ≡ Control.resume endpoint }
 {
@@ -101,6 +102,7 @@ fn state_number(phase: Phase) -> u16
 }
 
 // CPSR of Get State: the slot's state and its own flags, and the endpoint's flags.
+#[tactic(auto, unfolding(machine::specs::Control::state_word))]
 fn state_word(endpoint: Endpoint, slot: usize) -> u16
     requires { slot < 2 }
     ensures { result ≡ state_word endpoint slot }
@@ -114,6 +116,7 @@ fn state_word(endpoint: Endpoint, slot: usize) -> u16
 }
 
 // Clears the endpoint's flags and the slot's bit 3.
+#[tactic(auto, unfolding(machine::specs::Control::clear_flags))]
 fn clear_flags(endpoint: Endpoint, slot: usize) -> Endpoint
     requires { slot < 2 }
     ensures { result ≡ clear_flags endpoint slot }
@@ -137,6 +140,7 @@ fn held_in(phase: Phase) -> Held
 }
 
 // Replay: a response that the slot still holds goes to Transmit, and CPSR is 1. Else nothing happens.
+#[tactic(auto, unfolding(machine::specs::Control::replay))]
 fn replay(endpoint: Endpoint, slot: usize) -> Acted
     requires { slot < 2 }
     ensures { result ≡ Control.replay endpoint slot }
@@ -155,6 +159,7 @@ fn replay(endpoint: Endpoint, slot: usize) -> Acted
 }
 
 // The five primitives. The opcode that is left is Replay's.
+#[tactic(auto, unfolding(machine::specs::Control::primitive))]
 fn primitive(endpoint: Endpoint, opcode: u8, slot: usize, clear: bool) -> Acted
     requires { slot < 2 }
     ensures { result ≡ Control.primitive endpoint opcode slot clear }
@@ -213,6 +218,7 @@ fn is_zero(low: u8, high: u8) -> bool
 }
 
 // A control primitive that came whole, with a right check: it acts, or is refused by an error reply.
+#[tactic(auto, unfolding(machine::specs::Control::controlled))]
 pub fn controlled(
     endpoint: Endpoint,
     header: Header,

@@ -10,6 +10,7 @@ use machine::{Done, Endpoint, Slot, answers, flags};
 use slots::{ended, with_slot};
 
 // The flag that a refusal sets, at its place in the Get State word.
+#[tactic(auto, unfolding(machine::specs::Receive::flag_of))]
 fn flag_of(n: u8) -> u16
     ensures { result ≡ flag_of n }
 {
@@ -27,6 +28,7 @@ fn flag_of(n: u8) -> u16
 }
 
 // A refusal changes nothing but its flag.
+#[tactic(auto, unfolding(machine::specs::Receive::refused))]
 pub fn refused(endpoint: Endpoint, n: u8) -> Done
     ensures { (a b : List ℕ) → outcome result.answer (world result.endpoint a b) ≡ Receive.refused (world endpoint a b) n }
 {
@@ -35,6 +37,7 @@ pub fn refused(endpoint: Endpoint, n: u8) -> Done
 }
 
 // 20: the flag is the slot's own.
+#[tactic(auto, unfolding(machine::specs::Receive::refused_busy))]
 pub fn refused_busy(endpoint: Endpoint, slot: usize) -> Done
     requires { slot < 2 }
     ensures { (a b : List ℕ) → outcome result.answer (world result.endpoint a b) ≡ refused_busy (world endpoint a b) slot }

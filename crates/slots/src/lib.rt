@@ -111,6 +111,7 @@ pub fn settled(paused: bool, response: Response) -> Phase
 
 // A ticket that is presented for a slot: the taken command that it belongs to, or why there is none. 30 slot above 1; 31 not in Process, or its
 // response is there; 32 ticket not the slot's present one; 34 not taken.
+#[tactic(auto, unfolding(machine::specs::Finish::presented))]
 pub fn presented(endpoint: Endpoint, slot: usize, ticket: Ticket) -> Presented
     ensures { result ≡ Finish.presented endpoint slot ticket }
 {
@@ -156,6 +157,7 @@ fn paused_slot(slot: Slot) -> Slot
 }
 
 // Pause: sets the flag of each slot that is not Idle.
+#[tactic(auto, unfolding(machine::specs::Control::pause))]
 pub fn pause(endpoint: Endpoint) -> Endpoint
     ensures { result ≡ Control.pause endpoint }
 {

@@ -51,6 +51,7 @@ fn response_to(request: Request, body: &[u8]) -> Response
 }
 
 // The response overwrites the front of the slot's store. The CSI that chose the slot is its number.
+#[tactic(auto, unfolding(machine::specs::Process::responded))]
 pub fn responded(
     endpoint: Endpoint,
     store: &mut [u8],
@@ -93,6 +94,7 @@ fn paused_if(ciap: bool, endpoint: Endpoint) -> Endpoint
 }
 
 // The slot enters Process with a whole command.
+#[tactic(auto, unfolding(machine::specs::Process::entered))]
 pub fn entered(
     endpoint: Endpoint,
     store: &mut [u8],

@@ -50,6 +50,7 @@ fn initial(eid: u8, unit: u8) -> Endpoint
 }
 
 // A new endpoint with this EID, from 8 to 254, else 38, and this unit, from 64 to 250, else 39. Beside either the endpoint has EID 8 and the unit 64.
+#[tactic(auto, unfolding(machine::specs::Finish::was_set_up))]
 pub fn setup(eid: u8, unit: usize) -> Done
     ensures value { result ≡ was_set_up eid unit }
     ensures valid { Valid result.endpoint }
@@ -68,6 +69,7 @@ pub fn setup(eid: u8, unit: usize) -> Done
 }
 
 // Both slots Idle, all flags but "reset seen" cleared, the control reply gone. The EID, the unit and the ticket counts stay.
+#[tactic(auto, unfolding(machine::specs::Finish::was_reset))]
 pub fn reset(endpoint: Endpoint) -> Done
     requires { Valid endpoint }
     ensures value { result ≡ was_reset endpoint }

@@ -28,6 +28,7 @@ fn with_mark(endpoint: Endpoint, slot: usize, request: Request, can: bool) -> En
 
 // Takes the command of a slot, and answers its ticket. 30: no such slot; 31: no command there awaits its response; 33: taken already. A taken
 // command counts as one that can't be stopped until something else is declared.
+#[tactic(auto, unfolding(machine::specs::Finish::taken))]
 pub fn take(endpoint: Endpoint, slot: usize) -> TakeDone
     requires { Valid endpoint }
     ensures value { result ≡ taken endpoint slot }
@@ -81,6 +82,7 @@ fn part_of<'a>(store: &'a [u8], slot: Slot) -> &'a [u8]
 
 // The request that was taken from a slot and awaits completion, check included, as a part of the slot's store. It is empty if there is
 // none, no such slot, or a store of another length.
+#[tactic(auto, unfolding(machine::specs::Finish::part))]
 pub fn request<'a>(endpoint: Endpoint, store0: &'a [u8], store1: &'a [u8], slot: usize) -> &'a [u8]
     requires { Valid endpoint }
     ensures { result.now ≡ part (world endpoint store0.now store1.now) slot }
@@ -93,6 +95,7 @@ pub fn request<'a>(endpoint: Endpoint, store0: &'a [u8], store1: &'a [u8], slot:
 
 // Declares whether the taken command of a slot can still be stopped with no effect, which is what an Abort of it reports; the last declaration
 // counts. 30 slot above 1; 31 not in Process, or its response is there; 32 ticket not the slot's present one; 34 not taken; else 0.
+#[tactic(auto, unfolding(machine::specs::Finish::was_declared))]
 pub fn declare(endpoint: Endpoint, slot: usize, ticket: Ticket, can: bool) -> Done
     requires { Valid endpoint }
     ensures value { result ≡ was_declared endpoint slot ticket can }
