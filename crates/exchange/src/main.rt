@@ -39,10 +39,9 @@ const CONTROL_TAG: u8 = 2;
 // The packets that one loop of polls hands out at most: both slots' longest responses, and a control reply behind each.
 const MOST_POLLS: usize = 4 * ((STORE_SIZE + UNIT - 1) / UNIT);
 
-fn say(what: &[u8], n: u64) {
-    io::write_all(1, what);
-    io::print_decimal(1, n);
-    io::write_all(1, b"\n");
+fn say(rt: &impl Print, what: &[u8], n: u64) {
+    let _ = rt.write_all(what);
+    let _ = println!(rt; "{n}");
 }
 
 fn wide(n: u8) -> u64 {
@@ -52,22 +51,28 @@ fn wide(n: u8) -> u64 {
 // ---- The controller sends, and the endpoint receives.
 
 // The requester awaits what the endpoint answers under this tag.
-fn awaited(requester: Requester, tag: u8) -> Requester
+fn awaited(rt: &impl Print, requester: Requester, tag: u8) -> Requester
     requires { ValidRequester requester }
     ensures { ValidRequester result }
 {
     let done = requester::await_response(requester, ENDPOINT_EID, tag);
-    say(b"requester await ", wide(done.answer));
+    say(rt, b"requester await ", wide(done.answer));
     done.requester
 }
 
 // The endpoint receives a packet.
-fn received(endpoint: Endpoint, store0: &mut [u8], store1: &mut [u8], packet: &[u8]) -> Endpoint
+fn received(
+    rt: &impl Print,
+    endpoint: Endpoint,
+    store0: &mut [u8],
+    store1: &mut [u8],
+    packet: &[u8],
+) -> Endpoint
     requires { Valid endpoint }
     ensures { Valid result }
 {
     let done = endpoint::receive(endpoint, store0, store1, packet);
-    say(b"receive ", wide(done.answer));
+    say(rt, b"receive ", wide(done.answer));
     done.endpoint
 }
 
@@ -85,6 +90,7 @@ fn packet_end(at: usize, end: usize) -> usize
 
 // The packets of a message, which lie end to end. The controller puts each on its bus here; a board takes it from its bus.
 fn all_received(
+    rt: &impl Print,
     endpoint: Endpoint,
     store0: &mut [u8],
     store1: &mut [u8],
@@ -97,7 +103,7 @@ fn all_received(
     let mut at = 0;
     while at < packets.len() {
         let end = packet_end(at, packets.len());
-        now = received(now, store0, store1, &packets[at..end]);
+        now = received(rt, now, store0, store1, &packets[at..end]);
         at = end;
     }
     now
@@ -105,6 +111,7 @@ fn all_received(
 
 // An MI command for slot 0, of its header, zeros and its check: the requester cuts it into packets, and the endpoint receives them.
 fn command_sent(
+    rt: &impl Print,
     endpoint: Endpoint,
     requester: Requester,
     store0: &mut [u8],
@@ -122,12 +129,13 @@ fn command_sent(
     let SendAnswer::Written(n) = answer else {
         return endpoint;
     };
-    say(b"requester cut of ", n as u64);
-    all_received(endpoint, store0, store1, &buffer[..n])
+    say(rt, b"requester cut of ", n as u64);
+    all_received(rt, endpoint, store0, store1, &buffer[..n])
 }
 
 // The control primitive Get State for slot 0: the requester builds it as one packet, and the endpoint receives it.
 fn primitive_sent(
+    rt: &impl Print,
     endpoint: Endpoint,
     requester: Requester,
     store0: &mut [u8],
@@ -147,25 +155,31 @@ fn primitive_sent(
     let SendAnswer::Written(n) = answer else {
         return endpoint;
     };
-    say(b"requester primitive of ", n as u64);
-    all_received(endpoint, store0, store1, &buffer[..n])
+    say(rt, b"requester primitive of ", n as u64);
+    all_received(rt, endpoint, store0, store1, &buffer[..n])
 }
 
 // ---- The endpoint answers, and the controller gathers.
 
 // Tells what an Abort of the taken command would report from here on: that it had no effect yet, or that it may have had one.
-fn declared(endpoint: Endpoint, slot: usize, ticket: Ticket, can: bool) -> Done
+fn declared(rt: &impl Print, endpoint: Endpoint, slot: usize, ticket: Ticket, can: bool) -> Done
     requires { Valid endpoint }
     ensures { Valid result.endpoint }
 {
     let done = endpoint::declare(endpoint, slot, ticket, can);
-    say(b"declare ", wide(done.answer));
+    say(rt, b"declare ", wide(done.answer));
     done
 }
 
 // Takes the slot's command, looks at the request, and completes it with a status byte and 260 zeros. Until the work begins it can still be stopped;
 // and it does not begin if an Abort came in between.
-fn answered(endpoint: Endpoint, store0: &mut [u8], store1: &mut [u8], slot: usize) -> Endpoint
+fn answered(
+    rt: &impl Print,
+    endpoint: Endpoint,
+    store0: &mut [u8],
+    store1: &mut [u8],
+    slot: usize,
+) -> Endpoint
     requires { Valid endpoint }
     ensures { Valid result }
 {
@@ -174,46 +188,46 @@ fn answered(endpoint: Endpoint, store0: &mut [u8], store1: &mut [u8], slot: usiz
     let TakeAnswer::Given(ticket) = answer else {
         return taken.endpoint;
     };
-    let waits = declared(taken.endpoint, slot, ticket, true);
+    let waits = declared(rt, taken.endpoint, slot, ticket, true);
     let request = endpoint::request(waits.endpoint, store0, store1, slot);
-    say(b"request of ", request.len() as u64);
-    let begins = declared(waits.endpoint, slot, ticket, false);
+    say(rt, b"request of ", request.len() as u64);
+    let begins = declared(rt, waits.endpoint, slot, ticket, false);
     if begins.answer != answers::DONE {
         return begins.endpoint;
     }
     let body = [0u8; 261];
     let done = endpoint::complete(begins.endpoint, store0, store1, slot, ticket, &body);
-    say(b"complete ", wide(done.answer));
+    say(rt, b"complete ", wide(done.answer));
     done.endpoint
 }
 
 // The words of what the requester answers to a packet: 0 where more are to come, or a whole message.
-fn gather_words(answer: ReceiveAnswer) {
+fn gather_words(rt: &impl Print, answer: ReceiveAnswer) {
     match answer {
-        ReceiveAnswer::Refused(n) => say(b"requester receive ", wide(n)),
-        ReceiveAnswer::More => say(b"requester receive ", 0),
-        ReceiveAnswer::Response(n) => say(b"requester response of ", n as u64),
-        ReceiveAnswer::Control(n) => say(b"requester control reply of ", n as u64),
+        ReceiveAnswer::Refused(n) => say(rt, b"requester receive ", wide(n)),
+        ReceiveAnswer::More => say(rt, b"requester receive ", 0),
+        ReceiveAnswer::Response(n) => say(rt, b"requester response of ", n as u64),
+        ReceiveAnswer::Control(n) => say(rt, b"requester control reply of ", n as u64),
     }
 }
 
 // The requester receives a packet.
-fn gathered(requester: Requester, store: &mut [u8], packet: &[u8]) -> Requester
+fn gathered(rt: &impl Print, requester: Requester, store: &mut [u8], packet: &[u8]) -> Requester
     requires { ValidRequester requester }
     ensures { ValidRequester result }
 {
     let done = requester::receive(requester, store, packet);
     let answer = done.answer;
-    gather_words(answer);
+    gather_words(rt, answer);
     done.requester
 }
 
 // The words of a poll's answer.
-fn poll_words(answer: PollAnswer) {
+fn poll_words(rt: &impl Print, answer: PollAnswer) {
     match answer {
-        PollAnswer::Refused(n) => say(b"poll ", wide(n)),
-        PollAnswer::Nothing => say(b"poll ", 0),
-        PollAnswer::Packet(n) => say(b"packet of ", n as u64),
+        PollAnswer::Refused(n) => say(rt, b"poll ", wide(n)),
+        PollAnswer::Nothing => say(rt, b"poll ", 0),
+        PollAnswer::Packet(n) => say(rt, b"packet of ", n as u64),
     }
 }
 
@@ -227,6 +241,7 @@ struct Polled {
 
 // One poll. A board puts the packet on its bus here; the controller takes it from its bus.
 fn one_poll(
+    rt: &impl Print,
     endpoint: Endpoint,
     requester: Requester,
     store0: &[u8],
@@ -240,7 +255,7 @@ fn one_poll(
     let done = endpoint::poll(endpoint, store0, store1, &mut buffer);
     let answer = done.answer;
     let endpoint = done.endpoint;
-    poll_words(answer);
+    poll_words(rt, answer);
     let PollAnswer::Packet(n) = answer else {
         return Polled {
             endpoint,
@@ -250,13 +265,14 @@ fn one_poll(
     };
     Polled {
         endpoint,
-        requester: gathered(requester, store, &buffer[..n]),
+        requester: gathered(rt, requester, store, &buffer[..n]),
         more: true,
     }
 }
 
 // Polls until one hands out nothing. The count falls, so the loop ends whatever the endpoint has to send.
 fn all_sent(
+    rt: &impl Print,
     endpoint: Endpoint,
     requester: Requester,
     store0: &[u8],
@@ -273,14 +289,14 @@ fn all_sent(
     };
     let mut left = MOST_POLLS;
     while left > 0 && now.more {
-        now = one_poll(now.endpoint, now.requester, store0, store1, store);
+        now = one_poll(rt, now.endpoint, now.requester, store0, store1, store);
         left -= 1;
     }
     now
 }
 
 // A command whose first packet, with a full payload, came and no other: the clock's timeout ends it, and a reset finds nothing left.
-fn given_up(endpoint: Endpoint, store0: &mut [u8], store1: &mut [u8])
+fn given_up(rt: &impl Print, endpoint: Endpoint, store0: &mut [u8], store1: &mut [u8])
     requires { Valid endpoint }
 {
     let mut packet = [0u8; PACKET_ROOM];
@@ -290,28 +306,28 @@ fn given_up(endpoint: Endpoint, store0: &mut [u8], store1: &mut [u8])
     packet[3] = 0x89;
     packet[4] = nvme_mi::MESSAGE_TYPE;
     packet[5] = MI_FOR_SLOT_0;
-    let e = received(endpoint, store0, store1, &packet);
+    let e = received(rt, endpoint, store0, store1, &packet);
     let timed = endpoint::timeout(e, 0);
-    say(b"timeout ", wide(timed.answer));
+    say(rt, b"timeout ", wide(timed.answer));
     let done = endpoint::reset(timed.endpoint);
-    say(b"reset ", wide(done.answer));
+    say(rt, b"reset ", wide(done.answer));
 }
 
 // The slots' two stores are the drive's, the third is the controller's.
-fn main() {
+fn main(rt: HostRuntime) {
     let mut store0 = [0u8; STORE_SIZE];
     let mut store1 = [0u8; STORE_SIZE];
     let mut store = [0u8; STORE_SIZE];
     let started = endpoint::setup(ENDPOINT_EID, UNIT);
-    say(b"setup ", wide(started.answer));
+    say(&rt, b"setup ", wide(started.answer));
     let ready = requester::setup(REQUESTER_EID, UNIT);
-    say(b"requester setup ", wide(ready.answer));
-    let awaiting = awaited(ready.requester, COMMAND_TAG);
-    let whole = command_sent(started.endpoint, awaiting, &mut store0, &mut store1);
-    let done = answered(whole, &mut store0, &mut store1, 0);
-    let first = all_sent(done, awaiting, &store0, &store1, &mut store);
-    let asking = awaited(first.requester, CONTROL_TAG);
-    let asked = primitive_sent(first.endpoint, asking, &mut store0, &mut store1);
-    let second = all_sent(asked, asking, &store0, &store1, &mut store);
-    given_up(second.endpoint, &mut store0, &mut store1);
+    say(&rt, b"requester setup ", wide(ready.answer));
+    let awaiting = awaited(&rt, ready.requester, COMMAND_TAG);
+    let whole = command_sent(&rt, started.endpoint, awaiting, &mut store0, &mut store1);
+    let done = answered(&rt, whole, &mut store0, &mut store1, 0);
+    let first = all_sent(&rt, done, awaiting, &store0, &store1, &mut store);
+    let asking = awaited(&rt, first.requester, CONTROL_TAG);
+    let asked = primitive_sent(&rt, first.endpoint, asking, &mut store0, &mut store1);
+    let second = all_sent(&rt, asked, asking, &store0, &store1, &mut store);
+    given_up(&rt, second.endpoint, &mut store0, &mut store1);
 }

@@ -16,22 +16,22 @@ pub(crate) fn blank_buffer() -> [u8; LONGEST_BUFFER]
 }
 
 // Whether the bytes from a place on are as they were before the call.
-pub(crate) fn blank_words(on: bool, buffer: &[u8], from: usize) -> bool {
+pub(crate) fn blank_words(rt: &impl Print, on: bool, buffer: &[u8], from: usize) -> bool {
     let mut i = from;
     while i < buffer.len() {
         if buffer[i] != BLANK {
-            return say(on, b" touched");
+            return say(rt, on, b" touched");
         }
         i += 1;
     }
-    say(on, b" stays")
+    say(rt, on, b" stays")
 }
 
 // The answer beside which n bytes were written: `ANSWER LENGTH BYTES`, and whether the bytes behind them stay.
-pub(crate) fn written_words(answer: u8, buffer: &[u8], n: usize) -> bool
+pub(crate) fn written_words(rt: &impl Print, answer: u8, buffer: &[u8], n: usize) -> bool
     requires { n ≤ length buffer.now }
 {
-    let on = answered_with(answer, n as u64);
-    let on = hex(say(on, b" "), &buffer[..n]);
-    blank_words(on, buffer, n)
+    let on = answered_with(rt, answer, n as u64);
+    let on = hex(rt, say(rt, on, b" "), &buffer[..n]);
+    blank_words(rt, on, buffer, n)
 }

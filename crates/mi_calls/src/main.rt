@@ -21,6 +21,7 @@ use machine::Endpoint;
 use machine::sizes::{LEAST_UNIT, STORE_SIZE};
 use record::called;
 use requester_record::requester_called;
+use std::io::Read;
 use tags::{REQUESTER_STORE, STORES, is_no_mark, is_record, is_requesters};
 use words::half;
 
@@ -29,6 +30,9 @@ const HEAD_SIZE: usize = 3;
 
 // The memory of a store, whose front is lent.
 const MEMORY: usize = 4300;
+
+// The space of a record's bytes.
+const SPACE: usize = 65536;
 
 // Where a declaration has its mark, behind slot and ticket.
 const MARK: usize = 8;
@@ -44,26 +48,30 @@ struct Got {
 }
 
 // Reads once, behind the first bytes.
-fn read_behind(buf: &mut [u8], at: usize) -> Got
+fn read_behind(stdin: &mut impl Read, buf: &mut [u8], at: usize) -> Got
     requires { at ≤ length buf.old }
     ensures { at + result.count ≤ length buf.new }
 {
     let t = &mut buf[at..];
-    let got = libc::read(libc::STDIN_FILENO, t);
-    let count = io::count(got, t);
+    let Ok(count) = stdin.read(t) else {
+        return Got {
+            count: 0,
+            failed: true,
+        };
+    };
     Got {
         count,
-        failed: got < 0,
+        failed: false,
     }
 }
 
 // Reads until the bytes are all there, the input ends, or a read fails.
-fn filled(buf: &mut [u8]) -> Got
+fn filled(stdin: &mut impl Read, buf: &mut [u8]) -> Got
     ensures { result.count ≤ length buf.new }
 {
     let mut at = 0;
     while at < buf.len() {
-        let one = read_behind(buf, at);
+        let one = read_behind(stdin, buf, at);
         if one.count == 0 {
             return Got {
                 count: at,
@@ -79,31 +87,25 @@ fn filled(buf: &mut [u8]) -> Got
 }
 
 // What ends the program where a record is wanted: a read that failed is told, and a record that is none prints `bad`.
-fn broken(failed: bool) {
+fn broken(rt: &(impl Print + Eprint), failed: bool) {
     if failed {
-        io::write_all(
-            libc::STDERR_FILENO,
-            b"mi_calls: standard input can not be read\n",
-        );
+        let _ = eprintln!(rt; "mi_calls: standard input can not be read");
     } else {
-        say(true, b"bad\n");
+        say(rt, true, b"bad\n");
     }
 }
 
 // The end of a line; a line that could not be written is told.
-fn line_end(on: bool) -> bool {
-    let whole = say(on, b"\n");
+fn line_end(rt: &(impl Print + Eprint), on: bool) -> bool {
+    let whole = say(rt, on, b"\n");
     if !whole {
-        io::write_all(
-            libc::STDERR_FILENO,
-            b"mi_calls: standard output can not be written; lines are missing\n",
-        );
+        let _ = eprintln!(rt; "mi_calls: standard output can not be written; lines are missing");
     }
     whole
 }
 
 // Both ends, how much of each store's memory is lent, the endpoint's two and the requester's, and whether there is more to do.
-#[derive(Drop)]
+#[derive(Clone, Copy)]
 struct Session {
     endpoint: Endpoint,
     requester: Requester,
@@ -114,12 +116,18 @@ struct Session {
 }
 
 // So much of each store is lent from here on. More than its memory is `bad`.
-fn lent_anew(session: Session, length0: usize, length1: usize, length: usize) -> Session
+fn lent_anew(
+    rt: &(impl Print + Eprint),
+    session: Session,
+    length0: usize,
+    length1: usize,
+    length: usize,
+) -> Session
     requires { Kept session }
     ensures { Kept result }
 {
     if length0 > MEMORY || length1 > MEMORY || length > MEMORY {
-        broken(false);
+        broken(rt, false);
         return Session {
             on: false,
             ..session
@@ -129,7 +137,7 @@ fn lent_anew(session: Session, length0: usize, length1: usize, length: usize) ->
         length0,
         length1,
         length,
-        on: line_end(say(true, b"0")),
+        on: line_end(rt, say(rt, true, b"0")),
         ..session
     }
 }
@@ -153,28 +161,28 @@ fn none() -> Next
 }
 
 // Reads a record. The end of the input between records is silent.
-fn next_record(space: &mut [u8]) -> Next
+fn next_record(rt: &(impl Print + Eprint), stdin: &mut impl Read, space: &mut [u8]) -> Next
     requires { 65536 ≤ length space.old }
     ensures { result.on ≡ true → (least_size result.tag ≤ result.size) × (result.size ≤ 65535) }
 {
     let mut head = [0u8; HEAD_SIZE];
-    let got = filled(&mut head);
+    let got = filled(stdin, &mut head);
     let tag = head[0];
     let size = half(&head, 1);
     if got.count == 0 && !got.failed {
         return none();
     }
     if got.count < HEAD_SIZE || !is_record(tag, size) {
-        broken(got.failed);
+        broken(rt, got.failed);
         return none();
     }
-    let more = filled(&mut space[..size]);
+    let more = filled(stdin, &mut space[..size]);
     if more.count < size {
-        broken(more.failed);
+        broken(rt, more.failed);
         return none();
     }
     if is_no_mark(tag, space[MARK]) {
-        broken(false);
+        broken(rt, false);
         return none();
     }
     Next {
@@ -186,6 +194,8 @@ fn next_record(space: &mut [u8]) -> Next
 
 // Reads one record, does what it says, and writes its line.
 fn turn(
+    rt: &(impl Print + Eprint),
+    stdin: &mut impl Read,
     session: Session,
     store0: &mut [u8],
     store1: &mut [u8],
@@ -196,7 +206,7 @@ fn turn(
     requires store0_len { (length store0.old ≡ 4300) × (length store1.old ≡ 4300) × (length store.old ≡ 4300) × (65536 ≤ length space.old) }
     ensures { Kept result }
 {
-    let next = next_record(space);
+    let next = next_record(rt, stdin, space);
     let tag = next.tag;
     let size = next.size;
     if !next.on {
@@ -207,18 +217,18 @@ fn turn(
     }
     let body = &space[..size];
     if tag == STORES {
-        return lent_anew(session, half(body, 0), half(body, 2), session.length);
+        return lent_anew(rt, session, half(body, 0), half(body, 2), session.length);
     }
     if tag == REQUESTER_STORE {
-        return lent_anew(session, session.length0, session.length1, half(body, 0));
+        return lent_anew(rt, session, session.length0, session.length1, half(body, 0));
     }
     if is_requesters(tag) {
         let n = session.length;
-        let step = requester_called(session.requester, &mut store[..n], tag, body);
+        let step = requester_called(rt, session.requester, &mut store[..n], tag, body);
         let requester = step.requester;
         return Session {
             requester,
-            on: line_end(step.on),
+            on: line_end(rt, step.on),
             ..session
         };
     }
@@ -226,20 +236,21 @@ fn turn(
     let n1 = session.length1;
     let lent0 = &mut store0[..n0];
     let lent1 = &mut store1[..n1];
-    let step = called(session.endpoint, lent0, lent1, tag, body);
+    let step = called(rt, session.endpoint, lent0, lent1, tag, body);
     let endpoint = step.endpoint;
     Session {
         endpoint,
-        on: line_end(step.on),
+        on: line_end(rt, step.on),
         ..session
     }
 }
 
-fn main() {
+fn main(rt: HostRuntime) {
+    let mut stdin = rt.stdin();
     let mut store0 = [0u8; MEMORY];
     let mut store1 = [0u8; MEMORY];
     let mut store = [0u8; MEMORY];
-    let mut space = io::large_buffer();
+    let mut space = [0u8; SPACE];
     let started = endpoint::setup(EID, LEAST_UNIT);
     let endpoint = started.endpoint;
     let begun = requester::setup(EID, LEAST_UNIT);
@@ -254,7 +265,15 @@ fn main() {
     };
     let mut turns = u64::MAX;
     while turns > 0 && session.on {
-        session = turn(session, &mut store0, &mut store1, &mut store, &mut space);
+        session = turn(
+            &rt,
+            &mut stdin,
+            session,
+            &mut store0,
+            &mut store1,
+            &mut store,
+            &mut space,
+        );
         turns -= 1;
     }
 }

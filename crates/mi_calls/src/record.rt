@@ -19,14 +19,14 @@ pub struct Step {
 }
 
 // `0 TICKET`, or the refusal's number.
-fn take_words(answer: TakeAnswer) -> bool {
+fn take_words(rt: &impl Print, answer: TakeAnswer) -> bool {
     match answer {
-        TakeAnswer::Refused(n) => answered(n),
-        TakeAnswer::Given(ticket) => answered_with(answers::DONE, ticket.0 as u64),
+        TakeAnswer::Refused(n) => answered(rt, n),
+        TakeAnswer::Given(ticket) => answered_with(rt, answers::DONE, ticket.0 as u64),
     }
 }
 
-fn take_step(endpoint: Endpoint, slot: usize) -> Step
+fn take_step(rt: &impl Print, endpoint: Endpoint, slot: usize) -> Step
     requires { Valid endpoint }
     ensures { Valid result.endpoint }
 {
@@ -35,30 +35,36 @@ fn take_step(endpoint: Endpoint, slot: usize) -> Step
     let endpoint = done.endpoint;
     Step {
         endpoint,
-        on: take_words(answer),
+        on: take_words(rt, answer),
     }
 }
 
 // `LENGTH PART`.
-fn read_words<'a>(endpoint: Endpoint, store0: &'a [u8], store1: &'a [u8], slot: usize) -> bool
+fn read_words<'a>(
+    rt: &impl Print,
+    endpoint: Endpoint,
+    store0: &'a [u8],
+    store1: &'a [u8],
+    slot: usize,
+) -> bool
     requires { Valid endpoint }
 {
     let part = endpoint::request(endpoint, store0, store1, slot);
-    hex(say(number(true, part.len() as u64), b" "), part)
+    hex(rt, say(rt, number(rt, true, part.len() as u64), b" "), part)
 }
 
-fn poll_words(buffer: &[u8], answer: PollAnswer) -> bool
+fn poll_words(rt: &impl Print, buffer: &[u8], answer: PollAnswer) -> bool
     requires { (n : ℕ) → answer ≡ PollAnswer.Packet n → n ≤ length buffer.now }
 {
     match answer {
-        PollAnswer::Refused(n) => blank_words(answered(n), buffer, 0),
-        PollAnswer::Nothing => blank_words(answered(answers::NOTHING_TO_SEND), buffer, 0),
-        PollAnswer::Packet(n) => written_words(answers::PACKET_SENT, buffer, n),
+        PollAnswer::Refused(n) => blank_words(rt, answered(rt, n), buffer, 0),
+        PollAnswer::Nothing => blank_words(rt, answered(rt, answers::NOTHING_TO_SEND), buffer, 0),
+        PollAnswer::Packet(n) => written_words(rt, answers::PACKET_SENT, buffer, n),
     }
 }
 
 // A poll with a buffer of n bytes.
-fn poll_step(endpoint: Endpoint, store0: &[u8], store1: &[u8], n: usize) -> Step
+fn poll_step(rt: &impl Print, endpoint: Endpoint, store0: &[u8], store1: &[u8], n: usize) -> Step
     requires { Valid endpoint × (n < 65536) }
     ensures { Valid result.endpoint }
 {
@@ -69,7 +75,7 @@ fn poll_step(endpoint: Endpoint, store0: &[u8], store1: &[u8], n: usize) -> Step
     let endpoint = done.endpoint;
     Step {
         endpoint,
-        on: poll_words(buffer, answer),
+        on: poll_words(rt, buffer, answer),
     }
 }
 
@@ -116,6 +122,7 @@ fn numbered(endpoint: Endpoint, store0: &mut [u8], store1: &mut [u8], tag: u8, b
 
 // A call on the lent parts of the stores, and its words.
 pub(crate) fn called(
+    rt: &impl Print,
     endpoint: Endpoint,
     store0: &mut [u8],
     store1: &mut [u8],
@@ -128,25 +135,25 @@ pub(crate) fn called(
     if tag == LOOK {
         return Step {
             endpoint,
-            on: look(true, endpoint, store0, store1),
+            on: look(rt, true, endpoint, store0, store1),
         };
     }
     if tag == READ {
         return Step {
             endpoint,
-            on: read_words(endpoint, store0, store1, word(body, 0)),
+            on: read_words(rt, endpoint, store0, store1, word(body, 0)),
         };
     }
     if tag == TAKE {
-        return take_step(endpoint, word(body, 0));
+        return take_step(rt, endpoint, word(body, 0));
     }
     if tag == POLL {
-        return poll_step(endpoint, store0, store1, half(body, 0));
+        return poll_step(rt, endpoint, store0, store1, half(body, 0));
     }
     let done = numbered(endpoint, store0, store1, tag, body);
     let endpoint = done.endpoint;
     Step {
         endpoint,
-        on: answered(done.answer),
+        on: answered(rt, done.answer),
     }
 }

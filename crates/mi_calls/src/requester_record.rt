@@ -21,24 +21,24 @@ pub struct RequesterStep {
 }
 
 // `0 LENGTH BYTES` and what became of the bytes behind them, or the refusal's number.
-fn send_words(buffer: &[u8], answer: SendAnswer) -> bool
+fn send_words(rt: &impl Print, buffer: &[u8], answer: SendAnswer) -> bool
     requires { (n : ℕ) → answer ≡ SendAnswer.Written n → n ≤ length buffer.now }
 {
     match answer {
-        SendAnswer::Refused(n) => blank_words(answered(n), buffer, 0),
-        SendAnswer::Written(n) => written_words(answers::DONE, buffer, n),
+        SendAnswer::Refused(n) => blank_words(rt, answered(rt, n), buffer, 0),
+        SendAnswer::Written(n) => written_words(rt, answers::DONE, buffer, n),
     }
 }
 
 // A command is cut: destination, tag, the buffer's length, the message.
-fn cut_words(requester: Requester, body: &[u8]) -> bool
+fn cut_words(rt: &impl Print, requester: Requester, body: &[u8]) -> bool
     requires { Valid requester × (4 ≤ length body.now) }
 {
     let mut space = blank_buffer();
     let n = half(body, 2);
     let buffer = &mut space[..n];
     let answer = requester::cut(requester, body[0], body[1], &body[4..], buffer);
-    send_words(buffer, answer)
+    send_words(rt, buffer, answer)
 }
 
 // A control primitive behind its destination and message tag.
@@ -54,27 +54,32 @@ fn primitive_of(body: &[u8]) -> Primitive
 }
 
 // A control primitive is built: destination, message tag, the primitive, the buffer's length.
-fn primitive_words(requester: Requester, body: &[u8]) -> bool
+fn primitive_words(rt: &impl Print, requester: Requester, body: &[u8]) -> bool
     requires { Valid requester × (12 ≤ length body.now) }
 {
     let mut space = blank_buffer();
     let n = half(body, 10);
     let buffer = &mut space[..n];
     let answer = requester::primitive(requester, body[0], body[1], primitive_of(body), buffer);
-    send_words(buffer, answer)
+    send_words(rt, buffer, answer)
 }
 
 // `1 LENGTH`, `2 LENGTH`, or another answer's number.
-fn receive_words(answer: ReceiveAnswer) -> bool {
+fn receive_words(rt: &impl Print, answer: ReceiveAnswer) -> bool {
     match answer {
-        ReceiveAnswer::Refused(n) => answered(n),
-        ReceiveAnswer::More => answered(answers::MORE_TO_COME),
-        ReceiveAnswer::Response(n) => answered_with(answers::COMMAND_COMPLETE, n as u64),
-        ReceiveAnswer::Control(n) => answered_with(answers::CONTROL_DONE, n as u64),
+        ReceiveAnswer::Refused(n) => answered(rt, n),
+        ReceiveAnswer::More => answered(rt, answers::MORE_TO_COME),
+        ReceiveAnswer::Response(n) => answered_with(rt, answers::COMMAND_COMPLETE, n as u64),
+        ReceiveAnswer::Control(n) => answered_with(rt, answers::CONTROL_DONE, n as u64),
     }
 }
 
-fn receive_step(requester: Requester, store: &mut [u8], packet: &[u8]) -> RequesterStep
+fn receive_step(
+    rt: &impl Print,
+    requester: Requester,
+    store: &mut [u8],
+    packet: &[u8],
+) -> RequesterStep
     requires { Valid requester }
     ensures { Valid result.requester }
 {
@@ -83,24 +88,25 @@ fn receive_step(requester: Requester, store: &mut [u8], packet: &[u8]) -> Reques
     let requester = done.requester;
     RequesterStep {
         requester,
-        on: receive_words(answer),
+        on: receive_words(rt, answer),
     }
 }
 
 // An answer by number.
-fn number_step(done: Done) -> RequesterStep
+fn number_step(rt: &impl Print, done: Done) -> RequesterStep
     requires { Valid done.requester }
     ensures { Valid result.requester }
 {
     let requester = done.requester;
     RequesterStep {
         requester,
-        on: answered(done.answer),
+        on: answered(rt, done.answer),
     }
 }
 
 // A call on the lent part of the store, and its words.
 pub(crate) fn requester_called(
+    rt: &impl Print,
     requester: Requester,
     store: &mut [u8],
     tag: u8,
@@ -110,28 +116,28 @@ pub(crate) fn requester_called(
     ensures { Valid result.requester }
 {
     if tag == REQUESTER_SETUP {
-        return number_step(requester::setup(body[0], unit_of(body)));
+        return number_step(rt, requester::setup(body[0], unit_of(body)));
     }
     if tag == REQUESTER_AWAIT {
-        return number_step(requester::await_response(requester, body[0], body[1]));
+        return number_step(rt, requester::await_response(requester, body[0], body[1]));
     }
     if tag == REQUESTER_CUT {
         return RequesterStep {
             requester,
-            on: cut_words(requester, body),
+            on: cut_words(rt, requester, body),
         };
     }
     if tag == REQUESTER_PRIMITIVE {
         return RequesterStep {
             requester,
-            on: primitive_words(requester, body),
+            on: primitive_words(rt, requester, body),
         };
     }
     if tag == REQUESTER_RECEIVE {
-        return receive_step(requester, store, body);
+        return receive_step(rt, requester, store, body);
     }
     RequesterStep {
         requester,
-        on: requester_look(true, requester, store),
+        on: requester_look(rt, true, requester, store),
     }
 }

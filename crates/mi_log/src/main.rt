@@ -11,9 +11,13 @@ ghost use Rattle.log_session.specs.Whole.{bad_line};
 ghost use Rattle.mi_log.specs.Run.{unread, held, after_record, over, missed, turned, flushed, Within, Roomy, printed_to, printed_at, Refilled};
 ghost use Rattle.mi_log.specs.Whole.{Ran};
 
-use log_session::{Answer, Session};
 use log_records::{HEAD_SIZE, Head, LINE_ROOM};
+use log_session::{Answer, Session};
 use machine::sizes::STORE_SIZE;
+use std::io::Read;
+
+// How many bytes the input buffer and the output buffer have.
+const BUFFER_SIZE: usize = 65536;
 
 // Where the unread input stands in its buffer, how much of the output buffer is filled, whether the input has ended, whether more input is
 // wanted before the next turn, whether there is more to do, and the session.
@@ -41,7 +45,7 @@ fn shift(buf: &mut [u8], at: usize, n: usize)
 }
 
 // Where more input is wanted, moves what is unread to the front, and reads once behind it. A read that fails ends the run.
-fn refill(buf: &mut [u8], r: Run) -> Run
+fn refill(rt: &impl Eprint, stdin: &mut impl Read, buf: &mut [u8], r: Run) -> Run
     requires { (r.at ≤ r.end) × (r.end ≤ length buf.old) }
     ensures refilled { Refilled r result buf.old buf.new }
     ensures at_le_end { (result.at ≤ result.end) × (result.end ≤ length buf.new) }
@@ -56,13 +60,8 @@ fn refill(buf: &mut [u8], r: Run) -> Run
     let n = r.end - at;
     shift(buf, at, n);
     let t = &mut buf[n..];
-    let got = libc::read(libc::STDIN_FILENO, t);
-    let k = io::count(got, t);
-    if got < 0 {
-        io::write_all(
-            libc::STDERR_FILENO,
-            b"mi_log: standard input can not be read\n",
-        );
+    let Ok(k) = stdin.read(t) else {
+        let _ = eprintln!(rt; "mi_log: standard input can not be read");
         return Run {
             at: 0,
             end: n,
@@ -70,7 +69,7 @@ fn refill(buf: &mut [u8], r: Run) -> Run
             on: false,
             ..r
         };
-    }
+    };
     Run {
         at: 0,
         end: n + k,
@@ -81,20 +80,17 @@ fn refill(buf: &mut [u8], r: Run) -> Run
 }
 
 // Writes the output, and tells it if that fails.
-fn written(out: &[u8]) -> bool {
-    let whole = io::write_all(libc::STDOUT_FILENO, out);
+fn written(rt: &(impl Print + Eprint), out: &[u8]) -> bool {
+    let whole = rt.write_all(out).is_ok();
     if !whole {
-        io::write_all(
-            libc::STDERR_FILENO,
-            b"mi_log: standard output can not be written; answers are missing\n",
-        );
+        let _ = eprintln!(rt; "mi_log: standard output can not be written; answers are missing");
     }
     whole
 }
 
 // Writes the output before more input is waited for, so that a pipe can be used live, and where a line would not fit behind it. A write that
 // fails ends the run.
-fn with_room(out: &[u8], r: Run) -> Run
+fn with_room(rt: &(impl Print + Eprint), out: &[u8], r: Run) -> Run
     requires put_in_bounds { r.put ≤ length out.now }
     requires line_room_in_bounds { line_room ≤ length out.now }
     ensures by_index { (input a b : List ℕ) → held result input out.now a b ≡ flushed result.on (held r input out.now a b) }
@@ -107,7 +103,7 @@ fn with_room(out: &[u8], r: Run) -> Run
     if !r.more && out.len() - put >= LINE_ROOM {
         return r;
     }
-    let on = written(&out[..put]);
+    let on = written(rt, &out[..put]);
     Run { put: 0, on, ..r }
 }
 
@@ -210,7 +206,14 @@ fn turn(buf: &[u8], out: &mut [u8], store0: &mut [u8], store1: &mut [u8], r: Run
 }
 
 // Turns, each followed by the write and the read that it makes necessary. What the output buffer then holds is not yet written.
-fn all(buf: &mut [u8], out: &mut [u8], store0: &mut [u8], store1: &mut [u8]) -> Run
+fn all(
+    rt: &(impl Print + Eprint),
+    stdin: &mut impl Read,
+    buf: &mut [u8],
+    out: &mut [u8],
+    store0: &mut [u8],
+    store1: &mut [u8],
+) -> Run
     requires line_room_in_bounds { (line_room ≤ length out.old) × (length out.old ≤ 65536) }
     requires store0_value { (store0.old ≡ replicate store_size 0) × (store1.old ≡ replicate store_size 0) }
     ensures put_in_bounds { result.put ≤ length out.new }
@@ -229,19 +232,27 @@ fn all(buf: &mut [u8], out: &mut [u8], store0: &mut [u8], store1: &mut [u8]) -> 
     let mut turns = u64::MAX;
     while turns > 0 && r.on {
         r = turn(buf, out, store0, store1, r);
-        r = with_room(out, r);
-        r = refill(buf, r);
+        r = with_room(rt, out, r);
+        r = refill(rt, stdin, buf, r);
         turns -= 1;
     }
     r
 }
 
-fn main() {
-    let mut buf = io::large_buffer();
-    let mut out = io::large_buffer();
+fn main(rt: HostRuntime) {
+    let mut stdin = rt.stdin();
+    let mut buf = [0u8; BUFFER_SIZE];
+    let mut out = [0u8; BUFFER_SIZE];
     let mut store0 = [0u8; STORE_SIZE];
     let mut store1 = [0u8; STORE_SIZE];
-    let r = all(&mut buf, &mut out, &mut store0, &mut store1);
+    let r = all(
+        &rt,
+        &mut stdin,
+        &mut buf,
+        &mut out,
+        &mut store0,
+        &mut store1,
+    );
     let put = r.put;
-    written(&out[..put]);
+    written(&rt, &out[..put]);
 }
