@@ -4,7 +4,6 @@ use Prim.Native.Nat.{ℕ}
 use mathlib.Core.Path.{◌≡◌, refl}
 use mathlib.Core.List.{List}
 use lib.Dec.{eqb}
-use lib.ListN.{length}
 use Rattle.lent.proofs.Choice.{if_ind}
 use Rattle.machine.specs.Valid.{Valid}
 use Rattle.machine.specs.declared.TakeAnswer.{TakeAnswer}

@@ -16,7 +16,7 @@ use machine::{Done, Endpoint, PollAnswer, TakeAnswer, Ticket, answers};
 const EID: u8 = 8;
 
 // The endpoint, and for each slot the ticket last taken there. The stores are lent beside it.
-#[derive(Drop)]
+#[derive(Clone, Copy)]
 pub struct Session {
     pub endpoint: Endpoint,
     pub ticket0: Ticket,
@@ -24,7 +24,7 @@ pub struct Session {
 }
 
 // The session after a record, and the length of the line that it prints.
-#[derive(Drop)]
+#[derive(Clone, Copy)]
 pub struct Answer {
     pub session: Session,
     pub length: usize,
@@ -205,6 +205,7 @@ pub fn begin() -> Session
 }
 
 // Does what a record says, and writes its line to the front of `line`. The bytes behind it stay.
+#[tactic(auto, unfolding(log_records::specs::Records::is_record, crate::specs::Log::recorded))]
 pub fn record(
     session: Session,
     store0: &mut [u8],
