@@ -1,0 +1,9 @@
+-- Each read that gives something leaves fewer bytes to be filled.
+use Rattle.std.proofs.Common.{◌≤◌, ◌-◌, length}
+use Rattle.mi_calls.proofs.filled.Given as goal
+
+abbrev pub invariant-loop-at : goal.invariant-loop-at
+invariant-loop-at g l = l.at ≤ length l.buf
+
+abbrev pub decreases-loop-at : goal.decreases-loop-at
+decreases-loop-at g l = length l.buf - l.at
