@@ -1,4 +1,4 @@
--- A turn, the write and the read keep the places, and each is a step of `Reached`.
+-- Where the run begins, and where a turn, a write and a read take it.
 use Rattle.std.proofs.Common.{arith}
 use Rattle.mi_log.specs.Run.{held, unread}
 use Rattle.mi_log.proofs.Places.{input_is, refilled_put, refilled_on, refilled_within, flushed_places, flushed_unread, flushed_empty}
@@ -7,10 +7,11 @@ use Rattle.mi_log.proofs.all.Goals as goal
 
 pub loop-turns-init : goal.loop-turns-init
 loop-turns-init g c =
-    let a = c.args in (
-      record { first = omega arith; last = omega arith; filled = omega arith; small = c.requires.line_room_in_bounds.1; session_valid = c.begin-session.ensures.1 },
+    let a = c.args in
+    let b = c.begin-session.ensures in (
+      record { first = omega arith; last = omega arith; filled = omega arith; small = c.requires.line_room_in_bounds.1; session_valid = b.1 },
       λ _. c.requires.line_room_in_bounds.0,
-      ran_start _ a.out.now a.store0.now a.store1.now c.begin-session.ensures.0 c.requires.store0_value.0 c.requires.store0_value.1,
+      ran_start _ a.out.now a.store0.now a.store1.now b.0 c.requires.store0_value.0 c.requires.store0_value.1,
     )
 
 pub refill-r-requires : goal.refill-r-requires
@@ -20,14 +21,16 @@ refill-r-requires g c =
 
 pub loop-turns-preserved : goal.loop-turns-preserved
 loop-turns-preserved g c =
-    let t = c.turn-r in
-    let f = c.refill-r.ensures in
+    let f = c.refill-r in
     let o = c.with_room-r.ensures.by_index in
-    let h = held t.result (unread t.result c.loop-turns.buf) t.new.out t.new.store0 t.new.store1 in
-    let flushed = input_is _ (o _ t.new.store0 t.new.store1) (flushed_unread _ h _) in (
-      refilled_within f.refilled (flushed_places o t.ensures.within) f.at_le_end,
-      λ on. rw (refilled_put f.refilled) (c.with_room-r.ensures.line_room_in_bounds_2 (refilled_on f.refilled on)),
-      ran_as (f.refilled.left _ t.new.store0 t.new.store1)
-          (ran_read _ f.refilled.given f.refilled.piece (flushed_empty _ h flushed)
-          (ran_as flushed (ran_write h _ (ran_as t.ensures.store1_after (ran_turn _ c.if-r.true c.loop-turns.invariant.2))))),
+    let t = c.turn-r in
+    let a = t.new.store0 in
+    let b = t.new.store1 in
+    let h = held t.result (unread t.result c.loop-turns.buf) t.new.out a b in
+    let placed = input_is c.loop-turns.buf (o _ a b) (flushed_unread _ h c.loop-turns.buf) in (
+      refilled_within f.ensures.refilled (flushed_places o t.ensures.within) f.ensures.at_le_end,
+      λ on. rw (refilled_put f.ensures.refilled) (c.with_room-r.ensures.line_room_in_bounds_2 (refilled_on f.ensures.refilled on)),
+      ran_as (f.ensures.refilled.left _ a b)
+          (ran_read _ f.ensures.refilled.given f.ensures.refilled.piece (flushed_empty _ h placed)
+          (ran_as placed (ran_write h _ (ran_as t.ensures.store1_after (ran_turn _ c.if-r.true c.loop-turns.invariant.2))))),
     )

@@ -1,4 +1,4 @@
--- At the end of the input the run ends with the last line, which is `bad` where some input is left.
+-- The input has ended in a record: `bad` is the last line.
 use Rattle.std.proofs.Common.{◌∙◌}
 use borrow.Author.Tests.{not-false}
 use Rattle.log_session.specs.Whole.{bad_line}

@@ -1,6 +1,5 @@
 -- The head decides the row of `turned`.
-use Rattle.std.proofs.Common.{refl, ap, sym, ◌∙◌, arith, length-take, length-drop}
-use native.Mathlib.Nat.{le_refl}
+use Rattle.std.proofs.Common.{refl, ap, sym, ◌∙◌, le_refl, arith, length-take, length-drop}
 use Rattle.log_session.specs.Whole.{bad_line}
 use Rattle.log_records.proofs.Heads.{whole}
 use Rattle.log_records.specs.declared.Head.TheVariants.{Bad, More, Record}
@@ -25,24 +24,26 @@ pub returns-in-Bad-clause-within : goal.returns-in-Bad-clause-within
 returns-in-Bad-clause-within c =
     let a = c.args in
     let input = unread a.r a.buf.now in
-    within_as (over_within (held a.r input a.out.now a.store0.now a.store1.now) bad_line (omega arith) c.requires)
-    (ap (λ (x : Held). x.run) (c.bad.ensures input a.store0.now a.store1.now)) (le_refl _) c.bad.auto.out
+    let h = held a.r input a.out.now a.store0.now a.store1.now in
+    within_as (over_within h bad_line (omega arith) c.requires) (ap (λ (x : Held). x.run) (c.bad.ensures input a.store0.now a.store1.now)) (le_refl _) c.bad.auto.out
 
 pub returns-in-More-clause-store1_after : goal.returns-in-More-clause-store1_after
 returns-in-More-clause-store1_after c =
     let a = c.args in
-    let h = held a.r (unread a.r a.buf.now) a.out.now a.store0.now a.store1.now in
-    by_head_lem h More (sym c.read_head-head.ensures ∙ c.in-More.is)
-    (input_is a.buf.now (c.missing.ensures a.store0.now a.store1.now) (missed_unread h a.buf.now))
+    let input = unread a.r a.buf.now in
+    let h = held a.r input a.out.now a.store0.now a.store1.now in
+    by_head_lem h More (sym c.read_head-head.ensures ∙ c.in-More.is) (input_is a.buf.now (c.missing.ensures a.store0.now a.store1.now) (missed_unread h a.buf.now))
 
 pub returns-in-More-clause-within : goal.returns-in-More-clause-within
 returns-in-More-clause-within c =
     let a = c.args in
-    within_as (missed_within (held a.r (unread a.r a.buf.now) a.out.now a.store0.now a.store1.now) c.requires)
-    (ap (λ (x : Held). x.run) (c.missing.ensures a.store0.now a.store1.now)) (le_refl _) c.missing.auto.out
+    let input = unread a.r a.buf.now in
+    let h = held a.r input a.out.now a.store0.now a.store1.now in
+    within_as (missed_within h c.requires) (ap (λ (x : Held). x.run) (c.missing.ensures a.store0.now a.store1.now)) (le_refl _) c.missing.auto.out
 
 pub returns-in-Record-clause-store1_after : goal.returns-in-Record-clause-store1_after
 returns-in-Record-clause-store1_after c =
     let a = c.args in
-    by_head_lem (held a.r (unread a.r a.buf.now) a.out.now a.store0.now a.store1.now) (Record _ _) (sym c.read_head-head.ensures ∙ c.in-Record.is)
-    (input_is a.buf.now c.one.ensures.store1_after (unread_behind a.r a.buf.now _))
+    let input = unread a.r a.buf.now in
+    let h = held a.r input a.out.now a.store0.now a.store1.now in
+    by_head_lem h (Record _ _) (sym c.read_head-head.ensures ∙ c.in-Record.is) (input_is a.buf.now c.one.ensures.store1_after (unread_behind a.r a.buf.now _))
