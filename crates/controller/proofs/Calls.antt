@@ -10,7 +10,7 @@ use lib.Dec.{eqb, ltb}
 use lib.ListN.{length, take, drop}
 use lib.Seq.{take_at, drop_at}
 use borrow.Author.Tests.{eqb-true, ltb-true, ltb-false, lt-ltb, le-ltb}
-use Rattle.lent.specs.Choice.{if◌then◌else◌}
+use Rattle.std.specs.Prelude.{if◌then◌else◌}
 use Rattle.lent.proofs.Choice.{if_ind, false_true, row}
 use Rattle.mctp.specs.Cut.{packet, cut, end_to_end, pieces}
 use Rattle.mctp.specs.declared.Route.{Route}

@@ -8,7 +8,7 @@ use native.Mathlib.Omega.{arith}
 use lib.Dec.{ltb}
 use lib.ListN.{length}
 use borrow.Author.Tests.{ltb-false}
-use Rattle.lent.specs.Choice.{if◌then◌else◌}
+use Rattle.std.specs.Prelude.{if◌then◌else◌}
 use Rattle.lent.proofs.Choice.{if_ind}
 use Rattle.controller.specs.State.{Valid}
 use Rattle.controller.specs.Send.{Sent, send_says, cut_to, primitive_to}

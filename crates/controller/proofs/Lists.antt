@@ -10,7 +10,7 @@ use lib.Dec.{eqb, ltb}
 use lib.ListN.{length, take, length-append, length-take, length-drop}
 use lib.Seq.{get_or-drop}
 use borrow.Author.Tests.{ltb-false, eqb-true, not-true, not-false}
-use Rattle.lent.specs.Choice.{if◌then◌else◌}
+use Rattle.std.specs.Prelude.{if◌then◌else◌}
 use Rattle.lent.specs.Bytes.{byte_at, is_set, put}
 use Rattle.lent.proofs.Choice.{if_ind, or_left, or_right, false_true}
 use Rattle.lent.proofs.Stores.{take_put}

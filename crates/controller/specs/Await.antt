@@ -1,7 +1,6 @@
 -- Setup and awaiting.
 -- Assumes nothing.
-use Rattle.std.specs.Prelude.{ℕ, Bool, eqb, ltb}
-use Rattle.lent.specs.Choice.{if◌then◌else◌}
+use Rattle.std.specs.Prelude.{ℕ, Bool, eqb, ltb, if◌then◌else◌}
 use Rattle.mctp.specs.Setup.{first_eid, least_unit, setup_refusal}
 use Rattle.machine.specs.Answers.{done}
 use Rattle.controller.specs.Answers.{out_of_range}

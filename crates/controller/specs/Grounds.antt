@@ -2,8 +2,7 @@
 -- left. Numbers and sizes are literal, and no test is borrowed from the definitions. The proofs: `setup_so`, `awaits_so`, `cut_so`, `primitive_so`
 -- (proofs/Calls), `received_so` (proofs/Grounds).
 -- Assumes nothing.
-use Rattle.std.specs.Prelude.{ℕ, ◌+◌, ◌*◌, ◌/◌, ◌%◌, ◌≡◌, Bool, true, false, not, ◌&&◌, ◌||◌, List, [], ◌∷◌, ◌++◌, eqb, leb, ltb, length, take, drop}
-use Rattle.lent.specs.Choice.{if◌then◌else◌}
+use Rattle.std.specs.Prelude.{ℕ, ◌+◌, ◌*◌, ◌/◌, ◌%◌, ◌≡◌, Bool, true, false, not, ◌&&◌, ◌||◌, List, [], ◌∷◌, ◌++◌, eqb, leb, ltb, length, take, drop, if◌then◌else◌}
 use Rattle.lent.specs.Bytes.{byte_at, is_set, put}
 use Rattle.mctp.specs.Setup.{setup_number}
 use Rattle.mctp.specs.Cut.{cut, pieces}

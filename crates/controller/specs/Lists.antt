@@ -2,8 +2,7 @@
 -- behind packet from the source and under the tag that were awaited last, since they were. The proofs: `response_own`, `reply_own`, `answers_named`,
 -- `identity_kept` (proofs/Lists).
 -- Assumes nothing.
-use Rattle.std.specs.Prelude.{ℕ, ◌+◌, ◌/◌, ◌%◌, ◌≡◌, true, false, List, [], ◌∷◌, ◌++◌, eqb, length, take}
-use Rattle.lent.specs.Choice.{if◌then◌else◌}
+use Rattle.std.specs.Prelude.{ℕ, ◌+◌, ◌/◌, ◌%◌, ◌≡◌, true, false, List, [], ◌∷◌, ◌++◌, eqb, length, take, if◌then◌else◌}
 use Rattle.lent.specs.Bytes.{byte_at, is_set}
 use Rattle.mctp.specs.Setup.{setup_number}
 use Rattle.nvme_mi.specs.Check.{check_right}

@@ -2,8 +2,7 @@
 -- awaited", "into one lent store of 4,224 bytes (else 40), control replies too, without flags". What the tables say of bytes alone is `mctp`'s and
 -- `opening`'s, as at the endpoint.
 -- Assumes nothing.
-use Rattle.std.specs.Prelude.{ℕ, ◌+◌, true, not, List, [], ◌∷◌, eqb, length, take}
-use Rattle.lent.specs.Choice.{if◌then◌else◌}
+use Rattle.std.specs.Prelude.{ℕ, ◌+◌, true, not, List, [], ◌∷◌, eqb, length, take, if◌then◌else◌}
 use Rattle.lent.specs.Bytes.{put}
 use Rattle.mctp.specs.Header.{read_header, payload_of}
 use Rattle.mctp.specs.Gather.{join_refusal, no_assembly}

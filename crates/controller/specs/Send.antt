@@ -1,8 +1,7 @@
 -- Cutting a command and building a control primitive: "it cuts a command of 8 to 4,224 bytes into Polling's packets, but with TO 1 and the caller's tag
 -- and destination, builds each control primitive as one such packet".
 -- Assumes nothing.
-use Rattle.std.specs.Prelude.{ℕ, ◌%◌, Bool, not, ◌||◌, List, [], ◌∷◌, ◌++◌, ltb, length, drop}
-use Rattle.lent.specs.Choice.{if◌then◌else◌}
+use Rattle.std.specs.Prelude.{ℕ, ◌%◌, Bool, not, ◌||◌, List, [], ◌∷◌, ◌++◌, ltb, length, drop, if◌then◌else◌}
 use Rattle.lent.specs.Bytes.{low_high}
 use Rattle.mctp.specs.Cut.{packet, cut, end_to_end}
 use Rattle.mctp.specs.declared.Route.{Route}

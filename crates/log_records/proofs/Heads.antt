@@ -9,7 +9,7 @@ use lib.Dec.{ltb}
 use lib.ListN.{length, length-append}
 use borrow.Author.Tests.{ltb-false, le-ltb}
 use Rattle.lent.specs.Bytes.{byte_at}
-use Rattle.lent.specs.Choice.{if◌then◌else◌}
+use Rattle.std.specs.Prelude.{if◌then◌else◌}
 use Rattle.log_records.specs.Records.{is_record, head_size, length_of, headed}
 use Rattle.log_records.specs.declared.Head.{Head}
 use Rattle.log_records.specs.declared.Head.TheVariants.{Bad, More, Record}

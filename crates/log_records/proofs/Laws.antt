@@ -10,7 +10,7 @@ use lib.ListN.{length, take, drop, length-append, length-take, take-append-drop}
 use lib.Seq.{take_at, drop_at, drop-drop}
 use borrow.Author.Tests.{eqb-true, leb-true}
 use Rattle.lent.specs.Bytes.{put}
-use Rattle.lent.specs.Choice.{if◌then◌else◌}
+use Rattle.std.specs.Prelude.{if◌then◌else◌}
 use Rattle.lent.proofs.Choice.{false_true, and_both}
 use Rattle.log_records.specs.Records.{is_record, hex, line_room}
 

@@ -1,8 +1,7 @@
 -- "The log program": what a record prints, and the session that it leaves.
 -- Assumes nothing.
-use Rattle.std.specs.Prelude.{ℕ, ◌≤◌, ◌≡◌, List, [], ◌∷◌, eqb, length, take, drop, replicate}
+use Rattle.std.specs.Prelude.{ℕ, ◌≤◌, ◌≡◌, List, [], ◌∷◌, eqb, length, take, drop, replicate, if◌then◌else◌}
 use Rattle.lent.specs.Bytes.{byte_at, put}
-use Rattle.lent.specs.Choice.{if◌then◌else◌}
 use Rattle.log_records.specs.Records.{number_line, packet_line, log_unit, packet_room, line_room}
 use Rattle.machine.specs.State.{World, world, Outcome, ticket}
 use Rattle.machine.specs.Receive.{received}

@@ -8,7 +8,7 @@ use native.Mathlib.Nat.{mul-zero}
 use native.Mathlib.Omega.{arith}
 use lib.Dec.{eqb}
 use lib.ListN.{length}
-use Rattle.lent.specs.Choice.{if◌then◌else◌}
+use Rattle.std.specs.Prelude.{if◌then◌else◌}
 use Rattle.lent.proofs.Choice.{false_true}
 use Rattle.mctp.proofs.Laws.{packets_bounds}
 use Rattle.nvme_mi.specs.Check.{with_check}

@@ -8,7 +8,7 @@ use native.Mathlib.Omega.{arith}
 use lib.Dec.{eqb}
 use lib.ListN.{length, take}
 use borrow.Author.Tests.{eq-eqb, ne_eqb, not-false}
-use Rattle.lent.specs.Choice.{if◌then◌else◌}
+use Rattle.std.specs.Prelude.{if◌then◌else◌}
 use Rattle.lent.specs.Bytes.{put}
 use Rattle.lent.proofs.Choice.{if_ind, or_left, false_true}
 use Rattle.lent.proofs.Stores.{take_put}

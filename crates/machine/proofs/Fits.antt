@@ -9,7 +9,7 @@ use native.Mathlib.Omega.{arith}
 use lib.Dec.{ltb}
 use lib.ListN.{length, take}
 use borrow.Author.Tests.{ne_eqb}
-use Rattle.lent.specs.Choice.{if◌then◌else◌}
+use Rattle.std.specs.Prelude.{if◌then◌else◌}
 use Rattle.lent.specs.Bytes.{byte_at, is_set}
 use Rattle.lent.proofs.Choice.{false_true, differ, and_false, not_and}
 use Rattle.nvme_mi.specs.Message.{message_header, is_known, command_fault}

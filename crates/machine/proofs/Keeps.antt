@@ -10,7 +10,7 @@ use lib.Bits.{bit_or, or_mod, or_shr}
 use lib.Dec.{eqb, ltb}
 use lib.ListN.{length, get_or, set}
 use borrow.Author.Tests.{ltb-false, ltb-true, eqb-true, eqb-false, not-true, not-false}
-use Rattle.lent.specs.Choice.{if◌then◌else◌}
+use Rattle.std.specs.Prelude.{if◌then◌else◌}
 use Rattle.lent.specs.Bytes.{put}
 use Rattle.lent.proofs.Choice.{if_ind, if_second, or_left, or_right, false_true, differ}
 use Rattle.lent.proofs.Stores.{length_put}

@@ -10,7 +10,7 @@ use lib.ListN.{length, take, drop}
 use lib.Seq.{take-append_seam}
 use borrow.Author.Tests.{ltb-true, ltb-false, lt-ltb, le-ltb, eqb-true}
 use Rattle.lent.proofs.Choice.{differ}
-use Rattle.lent.specs.Choice.{if◌then◌else◌}
+use Rattle.std.specs.Prelude.{if◌then◌else◌}
 use Rattle.mctp.specs.Setup.{setup_refusal, setup_number}
 use Rattle.mctp.proofs.Laws.{setup_numbers as so}
 use Rattle.machine.specs.State.{World, outcome, ended, slot_at, with_slot, idled}

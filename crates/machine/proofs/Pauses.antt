@@ -8,7 +8,7 @@ use native.Mathlib.Omega.{arith}
 use lib.Dec.{eqb, ltb}
 use lib.ListN.{length}
 use borrow.Author.Tests.{ne_eqb, le-ltb, eqb-true}
-use Rattle.lent.specs.Choice.{if◌then◌else◌}
+use Rattle.std.specs.Prelude.{if◌then◌else◌}
 use Rattle.lent.specs.Bytes.{byte_at, is_set}
 use Rattle.lent.proofs.Choice.{if_ind, false_true, and_false}
 use Rattle.mctp.specs.Header.{fields, payload_of}

@@ -9,7 +9,7 @@ use lib.Dec.{eqb}
 use lib.ListN.{length, take}
 use lib.Seq.{get_or-drop, length-take-le}
 use borrow.Author.Tests.{eq-eqb, ne_eqb, eqb-true}
-use Rattle.lent.specs.Choice.{if◌then◌else◌}
+use Rattle.std.specs.Prelude.{if◌then◌else◌}
 use Rattle.lent.specs.Bytes.{byte_at, put}
 use Rattle.lent.proofs.Choice.{if_ind, false_true, both_and}
 use Rattle.lent.proofs.Stores.{length_put, take_put}

@@ -11,7 +11,7 @@ use lib.Dec.{eqb, ltb}
 use lib.ListN.{length, drop, length-drop}
 use lib.Seq.{take-append_seam}
 use borrow.Author.Tests.{le-ltb, eq-eqb, ne_eqb, eqb-true, eqb-false, ltb-true, ltb-false, leb-true, not-true, not-false}
-use Rattle.lent.specs.Choice.{if◌then◌else◌}
+use Rattle.std.specs.Prelude.{if◌then◌else◌}
 use Rattle.lent.specs.Bytes.{byte_at, is_set}
 use Rattle.lent.proofs.Choice.{if_ind, false_true, and_both, and_false}
 use Rattle.mctp.specs.Header.{read_header, same, fields, payload_of}

@@ -8,7 +8,7 @@ use native.Mathlib.Omega.{arith}
 use lib.Dec.{eqb}
 use lib.ListN.{get_or}
 use borrow.Author.Tests.{eqb-true, eq-eqb}
-use Rattle.lent.specs.Choice.{if◌then◌else◌}
+use Rattle.std.specs.Prelude.{if◌then◌else◌}
 use Rattle.lent.proofs.Choice.{if_ind, if_second, and_both, differ}
 use Rattle.machine.specs.State.{fresh, ticket, idled, held_in, slot_at, is_idle}
 use Rattle.machine.specs.Receive.{is_from, gathers, holder, holder_in, end_assembly, ended_slot}

@@ -1,8 +1,7 @@
 -- What can happen to a command: how it comes in, that nothing takes its place while it is worked on, and how it is taken and completed.
 -- The proofs: `accepted_right`, `command_stays`, `taken_first`, `fixed_once` (proofs/Commands).
 -- Assumes nothing.
-use Rattle.std.specs.Prelude.{ℕ, ◌+◌, ◌-◌, ◌*◌, ◌≤◌, ◌≡◌, true, ◌&&◌, List, [], eqb, ltb, length, take}
-use Rattle.lent.specs.Choice.{if◌then◌else◌}
+use Rattle.std.specs.Prelude.{ℕ, ◌+◌, ◌-◌, ◌*◌, ◌≤◌, ◌≡◌, true, ◌&&◌, List, [], eqb, ltb, length, take, if◌then◌else◌}
 use Rattle.lent.specs.Bytes.{byte_at}
 use Rattle.crc32c.specs.Crc32c.{crc32c}
 use Rattle.machine.specs.State.{World, slot_at, store_at}

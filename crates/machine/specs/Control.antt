@@ -1,8 +1,7 @@
 -- "Control primitives". Act on the whole at once.
 -- Assumes nothing.
-use Rattle.std.specs.Prelude.{ℕ, Bool, true, false, List, eqb}
+use Rattle.std.specs.Prelude.{ℕ, Bool, true, false, List, eqb, if◌then◌else◌}
 use Rattle.std.specs.Int.Bits.{bit_or}
-use Rattle.lent.specs.Choice.{if◌then◌else◌}
 use Rattle.mctp.specs.declared.Header.{Header}
 use Rattle.nvme_mi.specs.Message.{control, control_fault}
 use Rattle.nvme_mi.specs.Response.{response, fault_body, success_body}

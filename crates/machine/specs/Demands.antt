@@ -2,8 +2,7 @@
 -- (proofs/Arrives), `ticket_count`, `ticket_rule`, `ticket_own`, `answers_own`, `answer_belongs`, `pauses_hold`, `flags_fit` (proofs/Tickets),
 -- `abort_idles` (proofs/Replies), `always_sound` (proofs/Histories), `identity_kept` (proofs/Identity).
 -- Assumes nothing.
-use Rattle.std.specs.Prelude.{ℕ, ◌+◌, ◌*◌, ◌%◌, ◌^◌, ◌≤◌, ◌<◌, ◌≡◌, Bool, true, false, List, [], ◌∷◌, eqb, length}
-use Rattle.lent.specs.Choice.{if◌then◌else◌}
+use Rattle.std.specs.Prelude.{ℕ, ◌+◌, ◌*◌, ◌%◌, ◌^◌, ◌≤◌, ◌<◌, ◌≡◌, Bool, true, false, List, [], ◌∷◌, eqb, length, if◌then◌else◌}
 use Rattle.mctp.specs.Setup.{setup_number}
 use Rattle.mctp.specs.Cut.{packet}
 use Rattle.mctp.specs.declared.Route.{Route}

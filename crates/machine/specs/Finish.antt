@@ -1,7 +1,6 @@
 -- "Taking and finishing" with document 02's declaring, timeout, reset and setup.
 -- Assumes nothing.
-use Rattle.std.specs.Prelude.{ℕ, ◌^◌, Bool, true, false, not, ◌||◌, List, [], ◌∷◌, eqb, ltb, length, take, replicate}
-use Rattle.lent.specs.Choice.{if◌then◌else◌}
+use Rattle.std.specs.Prelude.{ℕ, ◌^◌, Bool, true, false, not, ◌||◌, List, [], ◌∷◌, eqb, ltb, length, take, replicate, if◌then◌else◌}
 use Rattle.mctp.specs.Setup.{first_eid, least_unit, setup_refusal}
 use Rattle.machine.specs.Answers.{done, no_such_slot, no_command, other_ticket, taken_already, not_taken, wrong_body_size, not_gathering, wrong_stores_number}
 use Rattle.machine.specs.State.{World, Outcome, outcome, ended, slot_at, store_at, with_slot, with_phase, idled, fresh, ticket, endpoint}

@@ -1,8 +1,7 @@
 -- "Receiving, in this order", flat: which number receiving answers, row by row in the document's order and words, from the packet's bytes, the
 -- EID, the unit and what is seen of both slots. The proof: `grounds` (proofs/Grounds).
 -- Assumes nothing.
-use Rattle.std.specs.Prelude.{ℕ, ◌+◌, ◌/◌, ◌%◌, ◌≡◌, Bool, not, ◌&&◌, ◌||◌, List, ◌++◌, eqb, ltb, length, take}
-use Rattle.lent.specs.Choice.{if◌then◌else◌}
+use Rattle.std.specs.Prelude.{ℕ, ◌+◌, ◌/◌, ◌%◌, ◌≡◌, Bool, not, ◌&&◌, ◌||◌, List, ◌++◌, eqb, ltb, length, take, if◌then◌else◌}
 use Rattle.lent.specs.Bytes.{byte_at, is_set}
 use Rattle.nvme_mi.specs.Check.{check_right}
 use Rattle.machine.specs.State.{World, store_at}

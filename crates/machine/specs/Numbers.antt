@@ -2,8 +2,7 @@
 -- beside it. Numbers and sizes are literal, so that the definitions that give an enum its number are held against them too. The proofs:
 -- `take_numbers_lem`, `complete_numbers`, `declare_numbers`, `timeout_numbers`, `poll_numbers`, `setup_numbers` (proofs/Numbers).
 -- Assumes nothing.
-use Rattle.std.specs.Prelude.{ℕ, ◌+◌, ◌≡◌, Bool, true, false, not, ◌&&◌, ◌||◌, List, [], ◌∷◌, eqb, ltb, length}
-use Rattle.lent.specs.Choice.{if◌then◌else◌}
+use Rattle.std.specs.Prelude.{ℕ, ◌+◌, ◌≡◌, Bool, true, false, not, ◌&&◌, ◌||◌, List, [], ◌∷◌, eqb, ltb, length, if◌then◌else◌}
 use Rattle.mctp.specs.Setup.{setup_number}
 use Rattle.machine.specs.State.{World, slot_at}
 use Rattle.machine.specs.Finish.{taken, take_says, completed, was_declared, timed_out, was_set_up}

@@ -1,7 +1,6 @@
 -- How the pause flags move. The proof: `flags_move` (proofs/Pauses).
 -- Assumes nothing.
-use Rattle.std.specs.Prelude.{ℕ, ◌≤◌, ◌≡◌, Bool, true, false, not, ◌&&◌, ◌||◌, List, eqb, ltb}
-use Rattle.lent.specs.Choice.{if◌then◌else◌}
+use Rattle.std.specs.Prelude.{ℕ, ◌≤◌, ◌≡◌, Bool, true, false, not, ◌&&◌, ◌||◌, List, eqb, ltb, if◌then◌else◌}
 use Rattle.lent.specs.Bytes.{byte_at, is_set}
 use Rattle.machine.specs.State.{World}
 use Rattle.machine.specs.Calls.{Call, of_call, Event, step}

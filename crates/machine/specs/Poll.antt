@@ -1,7 +1,6 @@
 -- "Polling".
 -- Assumes nothing.
-use Rattle.std.specs.Prelude.{ℕ, ◌+◌, Bool, not, ◌&&◌, ◌||◌, List, [], ◌∷◌, ◌++◌, eqb, ltb, length, take, drop}
-use Rattle.lent.specs.Choice.{if◌then◌else◌}
+use Rattle.std.specs.Prelude.{ℕ, ◌+◌, Bool, not, ◌&&◌, ◌||◌, List, [], ◌∷◌, ◌++◌, eqb, ltb, length, take, drop, if◌then◌else◌}
 use Rattle.mctp.specs.Cut.{packets, packet}
 use Rattle.machine.specs.Answers.{nothing_to_send, packet_sent_number, short_buffer, wrong_stores_number}
 use Rattle.machine.specs.State.{World, outgoing, slot_at, store_at, with_slot, with_phase, holding, reply_sent, packet_sent}

@@ -1,7 +1,6 @@
 -- "Entering Process", and the response that a slot then gets.
 -- Assumes nothing.
-use Rattle.std.specs.Prelude.{ℕ, ◌+◌, Bool, List, length}
-use Rattle.lent.specs.Choice.{if◌then◌else◌}
+use Rattle.std.specs.Prelude.{ℕ, ◌+◌, Bool, List, length, if◌then◌else◌}
 use Rattle.lent.specs.Bytes.{put}
 use Rattle.nvme_mi.specs.Message.{command_fault}
 use Rattle.nvme_mi.specs.Response.{response, fault_body}

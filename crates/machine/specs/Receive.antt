@@ -1,8 +1,7 @@
 -- "Receiving, in this order".
 -- Assumes nothing.
-use Rattle.std.specs.Prelude.{ℕ, ◌+◌, ◌^◌, Bool, true, false, not, ◌&&◌, List, [], ◌∷◌, eqb, length, take}
+use Rattle.std.specs.Prelude.{ℕ, ◌+◌, ◌^◌, Bool, true, false, not, ◌&&◌, List, [], ◌∷◌, eqb, length, take, if◌then◌else◌}
 use Rattle.std.specs.Int.Bits.{bit_or}
-use Rattle.lent.specs.Choice.{if◌then◌else◌}
 use Rattle.lent.specs.Bytes.{put}
 use Rattle.mctp.specs.Header.{read_header, payload_of, too_long, wrong_version, not_ours, wrong_direction}
 use Rattle.mctp.specs.Gather.{join_refusal, not_full, no_assembly, out_of_sequence}

@@ -2,9 +2,8 @@
 -- Last, the numbers that each call can answer. The proofs: `refused_packet`, `flag_column`, `wrong_stores_unchanged`, `refused_call` and `named`
 -- (proofs/Refusals).
 -- Assumes nothing.
-use Rattle.std.specs.Prelude.{ℕ, ◌%◌, ◌^◌, ◌≤◌, ◌≡◌, Bool, true, false, not, ◌&&◌, ◌||◌, List, [], ◌∷◌, map, eqb}
+use Rattle.std.specs.Prelude.{ℕ, ◌%◌, ◌^◌, ◌≤◌, ◌≡◌, Bool, true, false, not, ◌&&◌, ◌||◌, List, [], ◌∷◌, map, eqb, if◌then◌else◌}
 use Rattle.std.specs.Int.Bits.{bit_or}
-use Rattle.lent.specs.Choice.{if◌then◌else◌}
 use Rattle.lent.specs.Bytes.{byte_at, put}
 use Rattle.machine.specs.State.{World, slot_at, store_at, with_endpoint, with_store, with_flags, on_slot, on_both}
 use Rattle.machine.specs.Receive.{flag_of, received}

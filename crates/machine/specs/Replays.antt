@@ -2,8 +2,7 @@
 -- it. The words are written from the documents and borrow no test of the machine. The proofs: `held_is`, `held_moves`, `replay_sends`,
 -- `replay_arrives` (proofs/Replays).
 -- Assumes nothing.
-use Rattle.std.specs.Prelude.{ℕ, ◌+◌, ◌%◌, ◌≤◌, ◌≡◌, Bool, true, false, ◌&&◌, ◌||◌, List, [], eqb, length, take}
-use Rattle.lent.specs.Choice.{if◌then◌else◌}
+use Rattle.std.specs.Prelude.{ℕ, ◌+◌, ◌%◌, ◌≤◌, ◌≡◌, Bool, true, false, ◌&&◌, ◌||◌, List, [], eqb, length, take, if◌then◌else◌}
 use Rattle.lent.specs.Bytes.{byte_at}
 use Rattle.machine.specs.State.{World, held_in, slot_at, store_at}
 use Rattle.machine.specs.Calls.{Call, receive, of_call, Event, number, step}

@@ -1,8 +1,7 @@
 -- The control reply: what it says, what its primitive leaves, and that it is handed out. Its words are written from the document and borrow no
 -- test of the machine. The proofs: `primitive_done`, `control_replied`, `reply_stays` and `reply_goes` (proofs/Replies).
 -- Assumes nothing.
-use Rattle.std.specs.Prelude.{ℕ, ◌+◌, ◌/◌, ◌%◌, ◌≤◌, ◌<◌, ◌≡◌, Bool, true, false, not, ◌&&◌, ◌||◌, List, [], ◌∷◌, ◌++◌, eqb, ltb}
-use Rattle.lent.specs.Choice.{if◌then◌else◌}
+use Rattle.std.specs.Prelude.{ℕ, ◌+◌, ◌/◌, ◌%◌, ◌≤◌, ◌<◌, ◌≡◌, Bool, true, false, not, ◌&&◌, ◌||◌, List, [], ◌∷◌, ◌++◌, eqb, ltb, if◌then◌else◌}
 use Rattle.lent.specs.Bytes.{byte_at, is_set}
 use Rattle.nvme_mi.specs.Check.{with_check}
 use Rattle.machine.specs.State.{World, slot, slot_at, held_in}

@@ -1,7 +1,6 @@
 -- The state, "The endpoint has two slots, kept side by side and chosen by number", and both lent stores.
 -- Assumes nothing.
-use Rattle.std.specs.Prelude.{ℕ, ◌+◌, ◌%◌, ◌^◌, Bool, true, false, List, [], ◌∷◌, eqb, get_or, set}
-use Rattle.lent.specs.Choice.{if◌then◌else◌}
+use Rattle.std.specs.Prelude.{ℕ, ◌+◌, ◌%◌, ◌^◌, Bool, true, false, List, [], ◌∷◌, eqb, get_or, set, if◌then◌else◌}
 use Rattle.machine.specs.Types.{Ticket, Response, Outgoing, Held, NoResponse, Last, Phase, Idle, Receive, Process, Answered, Transmit, Slot, Endpoint, Done}
 
 -- ---- tickets

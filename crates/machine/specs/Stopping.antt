@@ -2,8 +2,7 @@
 -- changes nothing else, what an Abort reports of it, and that this is right before and after. The proofs: `mark_is`, `mark_own`, `declare_marks`,
 -- `abort_tells`, `told_stopped` (proofs/Stopping).
 -- Assumes nothing.
-use Rattle.std.specs.Prelude.{ℕ, ◌≤◌, ◌≡◌, Bool, true, false, ◌||◌, List, [], ◌∷◌, ◌++◌, eqb, length}
-use Rattle.lent.specs.Choice.{if◌then◌else◌}
+use Rattle.std.specs.Prelude.{ℕ, ◌≤◌, ◌≡◌, Bool, true, false, ◌||◌, List, [], ◌∷◌, ◌++◌, eqb, length, if◌then◌else◌}
 use Rattle.lent.specs.Bytes.{byte_at}
 use Rattle.machine.specs.State.{World, slot, slot_at, on_slot}
 use Rattle.machine.specs.Valid.{phased}

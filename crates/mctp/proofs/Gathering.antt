@@ -12,7 +12,7 @@ use lib.Dec.{eqb, eqb-suc-zero}
 use lib.ListN.{length, take, length-take}
 use lib.Seq.{take_all}
 use borrow.Author.Tests.{leb-true, leb-false, le-ltb, eq-eqb, ne_eqb}
-use Rattle.lent.specs.Choice.{if◌then◌else◌}
+use Rattle.std.specs.Prelude.{if◌then◌else◌}
 use Rattle.mctp.specs.Header.{read_header, payload_of}
 use Rattle.mctp.specs.Cut.{packets, payload, packet, cut_from, cut}
 use Rattle.mctp.specs.Gather.{Gathered, nothing, refused, more, whole, Assembling, is_cut, join_refusal, joined, first, gather_read, gather}

@@ -12,7 +12,7 @@ use lib.Dec.{eqb, leb, ltb, lit<}
 use lib.ListN.{length, take, length-take, length-drop}
 use lib.Seq.{take-add, take_all}
 use borrow.Author.Tests.{ltb-true, leb-true, eqb-true, ltb-false, lt-leb, le-leb, le-ltb, eq-eqb}
-use Rattle.lent.specs.Choice.{if◌then◌else◌}
+use Rattle.std.specs.Prelude.{if◌then◌else◌}
 use Rattle.lent.specs.Bytes.{byte_at, is_set}
 use Rattle.lent.proofs.Choice.{if_second, or_left, or_right, differ}
 use Rattle.mctp.specs.Setup.{first_eid, last_eid, least_unit, most_unit, setup_refusal, setup_number}

@@ -1,8 +1,7 @@
 -- What an end of the bus is set up with: its EID, and its transmission unit, the largest payload of a packet (U of document 02). "Setup: EID 8 to
 -- 254, else 38"; "Both setups [..] take U from 64 to 250, else 39, tested after 38".
 -- Assumes nothing.
-use Rattle.std.specs.Prelude.{ℕ, not, ◌&&◌, ◌||◌, leb, ltb}
-use Rattle.lent.specs.Choice.{if◌then◌else◌}
+use Rattle.std.specs.Prelude.{ℕ, not, ◌&&◌, ◌||◌, leb, ltb, if◌then◌else◌}
 
 abbrev pub first_eid : ℕ
 first_eid = 8

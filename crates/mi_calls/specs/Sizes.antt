@@ -1,7 +1,6 @@
 -- How many bytes a record of the calls program has behind its tag and length.
 -- Assumes nothing.
-use Rattle.std.specs.Prelude.{ℕ, eqb}
-use Rattle.lent.specs.Choice.{if◌then◌else◌}
+use Rattle.std.specs.Prelude.{ℕ, eqb, if◌then◌else◌}
 
 -- the fewest that a record of this tag has
 abbrev pub least_size : ℕ → ℕ

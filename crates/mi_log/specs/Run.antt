@@ -1,8 +1,7 @@
 -- The program between two calls of the system: what a turn, a read and a write do to its two buffers, its places in them and its session.
 -- Assumes nothing.
-use Rattle.std.specs.Prelude.{ℕ, ◌+◌, ◌-◌, ◌≤◌, ◌≡◌, Bool, true, false, ◌&&◌, ◌||◌, List, ◌++◌, eqb, ltb, length, take, drop}
+use Rattle.std.specs.Prelude.{ℕ, ◌+◌, ◌-◌, ◌≤◌, ◌≡◌, Bool, true, false, ◌&&◌, ◌||◌, List, ◌++◌, eqb, ltb, length, take, drop, if◌then◌else◌}
 use Rattle.lent.specs.Bytes
-use Rattle.lent.specs.Choice.{if◌then◌else◌}
 use Rattle.log_records.specs.Records.{head_size, headed, line_room}
 use Rattle.log_records.specs.declared.Head.{Head}
 use Rattle.log_records.specs.declared.Head.TheVariants.{Bad, More, Record}

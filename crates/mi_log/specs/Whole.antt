@@ -1,7 +1,6 @@
 -- The program on any input, whatever pieces of it the reads give: what it has written, and what is still due.
 -- Assumes nothing.
-use Rattle.std.specs.Prelude.{ℕ, ◌+◌, ◌≤◌, ◌≡◌, Bool, true, false, List, [], ◌++◌, length, take, replicate}
-use Rattle.lent.specs.Choice.{if◌then◌else◌}
+use Rattle.std.specs.Prelude.{ℕ, ◌+◌, ◌≤◌, ◌≡◌, Bool, true, false, List, [], ◌++◌, length, take, replicate, if◌then◌else◌}
 use Rattle.machine.specs.Wire.{store_size}
 use Rattle.log_records.specs.Records.{headed}
 use Rattle.log_records.specs.declared.Head.TheVariants.{More}

@@ -1,8 +1,7 @@
 -- The message header of document 01, "Bytes on the wire": byte 0 is 84h (IC 1, type 4). Byte 1: bit 7 ROR, bits 6:3 NMIMT, bit 0 CSI
 -- (the slot). Byte 2: bit 0 MEB, bit 1 CIAP. All other bits of bytes 1 to 3 are ignored on receipt, zero on sending.
 -- Assumes nothing.
-use Rattle.std.specs.Prelude.{ℕ, ◌/◌, ◌%◌, Bool, not, ◌&&◌, ◌||◌, List, eqb, ltb}
-use Rattle.lent.specs.Choice.{if◌then◌else◌}
+use Rattle.std.specs.Prelude.{ℕ, ◌/◌, ◌%◌, Bool, not, ◌&&◌, ◌||◌, List, eqb, ltb, if◌then◌else◌}
 use Rattle.lent.specs.Bytes.{byte_at, is_set}
 use Rattle.nvme_mi.specs.declared.MessageHeader.{MessageHeader}
 use Rattle.nvme_mi.specs.declared.Fault.{Fault}

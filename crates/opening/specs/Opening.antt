@@ -1,7 +1,6 @@
 -- What document 01's "Receiving" says of bytes alone, for either end: its second table but for 20, and the check of a message that is whole.
 -- Assumes nothing.
-use Rattle.std.specs.Prelude.{ℕ, Bool, not, ◌&&◌, ◌||◌, List, eqb, ltb, length}
-use Rattle.lent.specs.Choice.{if◌then◌else◌}
+use Rattle.std.specs.Prelude.{ℕ, Bool, not, ◌&&◌, ◌||◌, List, eqb, ltb, length, if◌then◌else◌}
 use Rattle.lent.specs.Bytes.{byte_at}
 use Rattle.mctp.specs.Header.{same}
 use Rattle.mctp.specs.Gather.{not_full, is_cut}

@@ -8,7 +8,7 @@ use lib.Dec.{ltb}
 use lib.ListN.{length}
 use borrow.Author.Tests.{ltb-false}
 use Rattle.lent.proofs.Choice.{if_second, false_true, differ}
-use Rattle.lent.specs.Choice.{if◌then◌else◌}
+use Rattle.std.specs.Prelude.{if◌then◌else◌}
 use Rattle.nvme_mi.specs.Check.{check_right}
 use Rattle.opening.specs.Opening.{joined_in}
 use Rattle.opening.specs.declared.Joined.{Joined}

@@ -10,7 +10,7 @@ use native.Mathlib.Omega.{arith}
 use lib.Dec.{eqb-suc-zero}
 use lib.ListN.{length, take, drop, replicate, length-take}
 use borrow.Author.Tests.{eq-eqb}
-use Rattle.lent.specs.Choice.{if◌then◌else◌}
+use Rattle.std.specs.Prelude.{if◌then◌else◌}
 use Rattle.lent.specs.Bytes.{put}
 use Rattle.lent.proofs.Choice.{if_ind, false_true}
 use Rattle.mctp.specs.Header.{read_header, payload_of}

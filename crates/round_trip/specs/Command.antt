@@ -2,8 +2,7 @@
 -- with no other call between and the same 4,224-byte stores, the EIDs match, the receiving slot is Idle [..], and the endpoint makes no response at once."
 -- The proof: `command_arrives` (proofs/Command).
 -- Assumes nothing.
-use Rattle.std.specs.Prelude.{ℕ, ◌+◌, ◌-◌, ◌%◌, ◌^◌, ◌≤◌, ◌≡◌, true, false, List, [], ◌∷◌, ◌++◌, length, drop, replicate}
-use Rattle.lent.specs.Choice.{if◌then◌else◌}
+use Rattle.std.specs.Prelude.{ℕ, ◌+◌, ◌-◌, ◌%◌, ◌^◌, ◌≤◌, ◌≡◌, true, false, List, [], ◌∷◌, ◌++◌, length, drop, replicate, if◌then◌else◌}
 use Rattle.opening.specs.Formed.{WellFormed}
 use Rattle.machine.specs.State.{World, slot_at, store_at}
 use Rattle.machine.specs.Valid.{Sound}

@@ -1,8 +1,7 @@
 -- THE WAY BACK: a response, as the endpoint's polls hand it out, is gathered by the requester that awaits it. The proofs: `responses_formed`
 -- (proofs/Formed), `response_arrives` (proofs/Response).
 -- Assumes nothing.
-use Rattle.std.specs.Prelude.{ℕ, ◌≤◌, ◌≡◌, Bool, true, ◌&&◌, ◌||◌, List, [], ◌∷◌, ◌++◌, eqb, length}
-use Rattle.lent.specs.Choice.{if◌then◌else◌}
+use Rattle.std.specs.Prelude.{ℕ, ◌≤◌, ◌≡◌, Bool, true, ◌&&◌, ◌||◌, List, [], ◌∷◌, ◌++◌, eqb, length, if◌then◌else◌}
 use Rattle.mctp.specs.Cut.{cut}
 use Rattle.opening.specs.Formed.{WellFormed}
 use Rattle.machine.specs.Calls.{Call, Event, number, given, part_read, handed_out, step}

@@ -3,7 +3,7 @@
 -- Assumes nothing.
 use mathlib.Core.Path.{◌≡◌}
 use mathlib.Core.Bool.{Bool, true, false, ◌&&◌}
-use Rattle.lent.specs.Choice.{if◌then◌else◌}
+use Rattle.std.specs.Prelude.{if◌then◌else◌}
 
 pub row : {A : Type 0} {b : Bool} {p x : A} (y : A) → b ≡ true → p ≡ x → p ≡ (if b then x else y)
 row y t h = rw t h

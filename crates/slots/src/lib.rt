@@ -1,8 +1,7 @@
 // Small steps on a slot, on the endpoint and on the lent stores that several calls share.
 #![tactic(auto)]
 
-ghost use Rattle.std.specs.Prelude.{◌≡◌, not, ◌||◌, ◌<◌, eqb};
-ghost use Rattle.lent.specs.Choice.{if◌then◌else◌};
+ghost use Rattle.std.specs.Prelude.{◌≡◌, not, ◌||◌, ◌<◌, eqb, if◌then◌else◌};
 ghost use Rattle.machine.specs.State;
 ghost use Rattle.machine.specs.State.{slot_at, with_slot, is_idle};
 ghost use Rattle.machine.specs.Poll.{other_slot};
