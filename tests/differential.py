@@ -154,7 +154,7 @@ def arguments():
         parser.add_argument(f"--{kind}", metavar="N", type=number,
                             help=f"how many random {kind} ({subject.many}; in a quick run {subject.few})")
         parser.add_argument(name, metavar=name.upper(),
-                            help=f"a program that reads {kind}, target/bin/{name}")
+                            help=f"a program that reads {kind}, crates/{name}/out/{name}")
     parser.add_argument("--records", metavar="N", type=number,
                         help=f"records in each of them ({RECORDS}; in a quick run {FEW_RECORDS})")
     given = parser.parse_args()
@@ -168,7 +168,7 @@ def chosen(parser, given, kind):
     name, inputs = subject.program.name, getattr(given, kind)
     path = getattr(given, name)
     if not (os.path.isfile(path) and os.access(path, os.X_OK)):
-        parser.error(f"{path} is no program that can be run; 'rt check {name}' builds target/bin/{name}")
+        parser.error(f"{path} is no program that can be run; 'rt run' in crates/{name} builds out/{name}")
     if inputs is None:
         inputs = subject.few if given.quick else subject.many
     return str(pathlib.Path(path).resolve()), inputs

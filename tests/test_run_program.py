@@ -22,31 +22,45 @@ ROOT = pathlib.Path(__file__).resolve().parent.parent
 COMMANDS = ("bash sh env awk sed sort find xargs sha256sum cut dirname readlink mkdir cat rm mv cp ln sleep wc flock head "
             "chmod").split()
 
-# rt: `version` prints the file kit; `check` notes its start, does what the file `do` says (the default builds) and prints as rt does
+# rt: `version` prints the file kit; `run` notes its start, does what the file `do` says (the default builds) and prints as rt does, and
+# then runs the program. Its folder is that of the program's crate.
 RT = """#!/bin/sh
 here=$(dirname "$0")
 [ "$1" = version ] && { cat "$here/kit"; exit; }
-echo "check $2" >>"$here/notes"
-mkdir -p target/bin target/stamp
+name=${PWD##*/}
+echo "$1 $name" >>"$here/notes"
+mkdir -p out
 . "$here/do"
 """
-BUILD = """echo 'logic=proved low'
-echo 'rt: low proved (unchanged since it was last proved)'
-echo 'rt: middle proved (2 s)'
-echo "rt: $2 proved (3 s)"
-if [ ! -f "target/stamp/$2" ]; then
-    rm -f "target/bin/$2"
-    cp "$here/program" "target/bin/$2"
-    chmod +x "target/bin/$2"
-    echo stamp >"target/stamp/$2"
+BUILD = """{
+    echo 'rt: middle: begins with what a check kept in another folder'
+    echo 'rt: chose --jobs 2 for middle'
+    echo 'fn middle::some: proved'
+    echo 'logic /the/kit: libraries=16'
+    echo 'library low: modules loaded=3 checked=0'
+    echo 'logic=proved functions=1'
+    echo "rt: chose --jobs 2 for $name"
+    echo "fn $name::main: proved"
+    echo 'logic=proved functions=1'
+} >&2
+if [ ! -f "out/$name" ]; then
+    cp "$here/program" "out/$name"
+    chmod +x "out/$name"
+elif [ "$(cat "out/$name.stamp")" != "$(sha256sum <"out/$name")" ]; then
+    cp "$here/program" "out/$name"
 fi
-echo "rt: $2 ran as nobody, and wrote what its file 'stdout' has (0 s)"
-echo 'rt: ok, 3 crates proved'
+sha256sum <"out/$name" >"out/$name.stamp"
+echo 'linked target=this' >&2
+echo "rt: running out/$name; to give it other input, run that file yourself" >&2
+exec "out/$name" 2>/dev/null
 """
-FAIL = """echo 'rt: low proved (1 s)'
-echo 'crates/middle/src/lib.rt:3:1: error: it is not so'
-echo 'rt: middle NOT PROVED (exit 1, 2 s)'
-echo 'rt: FAILED: middle mi_log'
+FAIL = """{
+    echo 'logic=proved functions=1'
+    echo 'rt: chose --jobs 2 for middle'
+    echo 'crates/middle/src/lib.rt:3:1: error: it is not so'
+    echo 'fn middle::some: no proof'
+    echo 'logic=not-proved'
+} >&2
 exit 1
 """
 # A build that lasts until it is ended: rt itself, a shell below it and a command below that
@@ -70,7 +84,7 @@ class Case(unittest.TestCase):
         (self.root / "tools").mkdir(parents=True)
         for name in ("mi-log", "tools/run-program"):
             shutil.copy(ROOT / name, self.root / name)
-        self.write("crates.txt", "# NAME: uses\nlow:\nmiddle: low\nmi_log: middle io libc\nother: low\n")
+        self.write("crates.txt", "# NAME: uses\nlow:\nmiddle: low\nmi_log: middle\nother: low\n")
         for name in ("low/src/lib.rt", "middle/src/lib.rt", "middle/must-fail/one.edit", "mi_log/src/main.rt", "other/src/lib.rt"):
             self.write(f"crates/{name}", name)
         self.kit()
@@ -166,10 +180,11 @@ class Building(Case):
         ran = self.run_it(given=b"one\n")
         self.assertEqual(ran.stdout, b"one\n")
         self.said(ran, 0, "of the 3 crates of mi_log (all of them take about 4 minutes on two processors)",
-                  "mi-log: 2 of 3 crates proved\nmi-log: 3 of 3 crates proved\n")
-        self.assertNotIn(b"logic=", ran.stderr)
+                  "mi-log: crates proved: 1\nmi-log: crates proved: 2\n")
+        for word in (b"logic", b"rt: ", b"fn ", b"linked"):
+            self.assertNotIn(word, ran.stderr)
         self.silent(self.run_it())
-        self.assertEqual(self.notes, ["check mi_log"])
+        self.assertEqual(self.notes, ["run mi_log"])
 
     def test_what_makes_it_build_again(self):
         self.run_it()
@@ -190,7 +205,7 @@ class Building(Case):
 
     def test_a_program_that_is_gone_or_another(self):
         self.run_it()
-        binary = self.root / "target/bin/mi_log"
+        binary = self.root / "crates/mi_log/out/mi_log"
         for change in (binary.unlink, lambda: binary.write_text("#!/bin/sh\necho other\n"), lambda: binary.chmod(0o644)):
             change()
             self.assertEqual(self.run_it(given=b"two\n").stdout, b"two\n")
@@ -199,8 +214,8 @@ class Building(Case):
     def test_what_is_not_proved_is_shown(self):
         self.kit(FAIL)
         ran = self.run_it(given=b"one\n")
-        self.said(ran, 1, "lib.rt:3:1: error: it is not so\nrt: middle NOT PROVED", "rt: FAILED: middle mi_log",
-                  "mi-log: 1 of 3 crates proved", "mi-log: mi_log is not built: rt check mi_log ended with status 1")
+        self.said(ran, 1, "lib.rt:3:1: error: it is not so\nfn middle::some: no proof\nlogic=not-proved\n",
+                  "mi-log: crates proved: 1", "mi-log: mi_log is not built: rt run ended with status 1 in ")
         self.assertEqual(ran.stdout, b"")
         self.said(self.run_it(), 1)
 
@@ -210,7 +225,7 @@ class Building(Case):
 
     def test_rt_that_builds_nothing(self):
         self.kit("true")
-        self.said(self.run_it(), 1, "rt check mi_log left no ")
+        self.said(self.run_it(), 1, "rt run left no ")
 
     def test_rt_reads_no_input(self):
         self.kit("cat >&2\n" + BUILD)
@@ -221,7 +236,7 @@ class Building(Case):
         self.addCleanup(os.close, ours)
         self.run_it(stderr=theirs)
         os.close(theirs)
-        self.assertIn(b"\rmi-log: 2 of 3 crates proved\033[K\rmi-log: 3 of 3 crates proved\033[K\r\n", os.read(ours, 4096))
+        self.assertIn(b"\rmi-log: crates proved: 1\033[K\rmi-log: crates proved: 2\033[K\r\n", os.read(ours, 4096))
 
 
 class WithoutTheKit(Case):
@@ -256,7 +271,7 @@ class OneAtATime(Case):
         for child in (first, second):
             self.assertEqual(child.communicate(b"one\n")[0], b"one\n")
             self.assertEqual(child.returncode, 0)
-        self.assertEqual(self.notes, ["check mi_log"])
+        self.assertEqual(self.notes, ["run mi_log"])
 
     def test_with_flock(self):
         self.wait_for_the_first()
@@ -302,7 +317,7 @@ class Running(Case):
 
     def test_words_of_the_program(self):
         self.program(COMPLAINS)
-        (self.root / "target/bin/mi_log").unlink()
+        (self.root / "crates/mi_log/out/mi_log").unlink()
         self.run_it()
         ran = self.run_it(given=b"13\n")
         self.assertEqual((ran.stdout, ran.stderr, ran.returncode),
@@ -311,7 +326,7 @@ class Running(Case):
     def test_status_of_the_program(self):
         for text, status in (("exit 7", 7), ("kill -9 $$", 137), ("printf 'no line end' >&2", 1)):
             self.program(f"#!/bin/sh\n{text}\n")
-            (self.root / "target/bin/mi_log").unlink()
+            (self.root / "crates/mi_log/out/mi_log").unlink()
             self.assertEqual(self.run_it().returncode, status)
             self.assertEqual(self.run_it().returncode, status)
 
@@ -355,7 +370,7 @@ class Running(Case):
 
     def test_words_come_before_the_end(self):
         self.program("#!/bin/sh\necho 'mi_log: a word' >&2\nexec cat\n")
-        (self.root / "target/bin/mi_log").unlink()
+        (self.root / "crates/mi_log/out/mi_log").unlink()
         self.run_it()
         child = self.start()
         self.assertEqual(child.stderr.readline(), b"mi_log: a word\n")
