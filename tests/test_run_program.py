@@ -84,7 +84,7 @@ class Case(unittest.TestCase):
         (self.root / "tools").mkdir(parents=True)
         for name in ("mi-log", "tools/run-program"):
             shutil.copy(ROOT / name, self.root / name)
-        self.write("crates.txt", "# NAME: uses\nlow:\nmiddle: low\nmi_log: middle\nother: low\n")
+        self.write("crates.txt", "# NAME: uses\nlow:\nmiddle: low\nmi_log: middle io libc\nother: low\n")
         for name in ("low/src/lib.rt", "middle/src/lib.rt", "middle/must-fail/one.edit", "mi_log/src/main.rt", "other/src/lib.rt"):
             self.write(f"crates/{name}", name)
         self.kit()

@@ -253,10 +253,10 @@ module _ (s : Side) (p key : List ℕ) (packets : List (List ℕ)) (f : Fit s ke
           message_length = simp (length-append, length-take) (omega (arith, fits))
 
           from : (ps : List (List ℕ)) → packets ≡ ps → Partly s.requester.unit key ps a.sequence a.length s.store → Before (take a.length s.store ++ bytes_from4 p)
-          from _ e (partly {p = q} {ps = qs} ours behind unended full sequence-is front begins) =
+          from _ e (partly {p = q} {ps = qs} ours behind unended full sequence_is front begins) =
               record {
                 ours = ours_is t.awaited;
-                behind = rw (som, e) (som, sequence ∙ ap (λ (x : ℕ). (x + 1) % 4) sequence-is, ours, unended, full, behind);
+                behind = rw (som, e) (som, sequence ∙ ap (λ (x : ℕ). (x + 1) % 4) sequence_is, ours, unended, full, behind);
                 message_is = rw (som, e, front) refl;
                 begins = rw front (begins_on (joined (q ∷ qs)) (bytes_from4 p) begins);
                 front = rw (at, message_length) (take_joined s.store a.length (bytes_from4 p) fits);

@@ -55,9 +55,9 @@ abbrev second_packet : List ℕ
 second_packet = 1 ∷ 8 ∷ 9 ∷ 0x59 ∷ 0 ∷ 0 ∷ 0 ∷ 0 ∷ 0x61 ∷ 0xB7 ∷ 0x56 ∷ 0x02 ∷ []
 
 -- it is well formed, and no test at entry answers it
-pub well-formed : WellFormed false command
+pub well_formed : WellFormed false command
 unfolding check_right crc32c reflect register steps step_crc
-well-formed = record { long = omega arith; short = omega arith; typed = refl; way = refl; kind = refl; right = unfold check_right crc32c reflect register steps step_crc in refl }
+well_formed = record { long = omega arith; short = omega arith; typed = refl; way = refl; kind = refl; right = unfold check_right crc32c reflect register steps step_crc in refl }
 
 pub no_answer : fixed_at_entry 1 command ≡ []
 unfolding with_check

@@ -71,52 +71,52 @@ yes false = 0 ∷ []
 
 pub shown : List (List ℕ)
 shown =
-    -- accepted-right: a command comes in whole
+    -- accepted_right: a command comes in whole
     says mi_20 new
-    -- command-stays: it is in Process
+    -- command_stays: it is in Process
     ∷ yes (is_process (phase_at waiting.world 0))
-    -- taken-first: a take gives ticket 1; a completion is accepted; the request is read, 20 bytes, and nothing before the take
+    -- taken_first: a take gives ticket 1; a completion is accepted; the request is read, 20 bytes, and nothing before the take
     ∷ says taking waiting
     ∷ says (completing 4) worked_on
     ∷ (length (says (read 0) worked_on) ∷ length (says (read 0) waiting) ∷ [])
-    -- stale-refused: ticket 7 with a command in Process, and with none
+    -- stale_refused: ticket 7 with a command in Process, and with none
     ∷ says (complete 0 (ticket 7) (replicate 4 0)) worked_on
     ∷ says (complete 0 (ticket 7) (replicate 4 0)) new
-    -- never-stale: a packet of sixteen bytes leaves slot 0
+    -- never_stale: a packet of sixteen bytes leaves slot 0
     ∷ says polling sending
     ∷ yes (is_packet_of (phase_at sending.world 0) (phase_at (step polling sending.world).world 0) (step polling sending.world).event)
-    -- ticket-rule: ticket 1 after a second command came in
+    -- ticket_rule: ticket 1 after a second command came in
     ∷ says (completing 4) replaced
     ∷ ((replaced.trace 0).entries ∷ [])
     ∷ says (declaring true) replaced
-    -- ticket-own, declare-marks, mark-own: a declaration of the command that was taken is accepted, and the history has it
+    -- ticket_own, declare_marks, mark_own: a declaration of the command that was taken is accepted, and the history has it
     ∷ says (declaring true) worked_on
     ∷ yes (stoppable.trace 0).stoppable
-    -- abort-tells, told-stopped: of a command that waits, that is taken, that can still be stopped, that no longer can; and of the next one after
+    -- abort_tells, told_stopped: of a command that waits, that is taken, that can still be stopped, that no longer can; and of the next one after
     -- that
     ∷ told waiting
     ∷ told worked_on
     ∷ told stoppable
     ∷ told begun
     ∷ told taken_next
-    -- cut-stays, told-stopped: its ticket after the Abort, before another command comes in
+    -- cut_stays, told_stopped: its ticket after the Abort, before another command comes in
     ∷ yes (is_process (phase_at stoppable.world 0))
     ∷ yes (cuts 0 abort stoppable.world)
     ∷ says (declaring false) (next abort stoppable)
-    -- answer-arrives, under the flag: the completion is accepted and waits; a poll is not counted; after Resume the response goes out whole,
+    -- answer_arrives, under the flag: the completion is accepted and waits; a poll is not counted; after Resume the response goes out whole,
     -- with one poll counted
     ∷ says (completing 4) paused
     ∷ yes (is_answered (phase_at (next (completing 4) paused).world 0))
     ∷ seen 0 (fate 0 (polling ∷ resume ∷ polling ∷ []) (next (completing 4) paused))
-    -- error-arrives: a response is fixed at the entry
+    -- error_arrives: a response is fixed at the entry
     ∷ says nmimt_3 new
     ∷ (length ((next nmimt_3 new).trace 0).response ∷ [])
-    -- abort-idles: an Abort that acts on slot 0
+    -- abort_idles: an Abort that acts on slot 0
     ∷ yes (cuts 0 abort sending.world)
-    -- flags-move: Pause sets the flag, Resume clears it
+    -- flags_move: Pause sets the flag, Resume clears it
     ∷ yes (paused_at paused.world 0)
     ∷ yes (paused_at (next resume paused).world 0)
-    -- refused-packet, refused-call, and 40 with stores of another length
+    -- refused_packet, refused_call, and 40 with stores of another length
     ∷ says (receive (replicate 4 1)) new
     ∷ says (take! 7) new
     ∷ answer (step polling (begin 8 64 [] zeros)).event

@@ -47,20 +47,20 @@ replayed = next (receive replay_1) held
 -- of the history with the response sent, and of the one after the Replay
 abbrev shown : History → History → List (List ℕ)
 shown h k =
-    -- held-is: slot 1 held nothing while it sent, and holds 69 bytes for EID 9 under tag 1 then; it has had one command
+    -- held_is: slot 1 held nothing while it sent, and holds 69 bytes for EID 9 under tag 1 then; it has had one command
     shown_held (held_at answered.world 1)
     ∷ shown_held (held_at h.world 1)
     ∷ ((h.trace 1).entries ∷ [])
-    -- replay-sends: a Replay of slot 1, answered with 2; no packet of the response has gone then, and the slot holds nothing
+    -- replay_sends: a Replay of slot 1, answered with 2; no packet of the response has gone then, and the slot holds nothing
     ∷ yes (is_replay 1 8 replay_1)
     ∷ answer (step (receive replay_1) h.world).event
     ∷ yes (is_unsent 1 k)
     ∷ shown_held (held_at k.world 1)
     -- its reply, with CPSR 1
     ∷ k.world.endpoint.reply
-    -- replay-arrives: the reply goes first, then both packets; six polls were counted in all, and 69 bytes joined
+    -- replay_arrives: the reply goes first, then both packets; six polls were counted in all, and 69 bytes joined
     ∷ seen 1 (fate 1 polls k)
-    -- replay-same, replay-returns: the same two packets as the first time, and the slot holds the response again
+    -- replay_same, replay_returns: the same two packets as the first time, and the slot holds the response again
     ∷ (sent_until 1 polls k ++ (shown_held (held_at (run polls k).world 1) ∷ []))
 
 pub again : shown held replayed

@@ -54,7 +54,7 @@ pub fn complete(
     body: &[u8],
 ) -> Done
     requires { Valid endpoint }
-    ensures store1_after { outcome result.answer (world result.endpoint store0.new store1.new) ≡ completed (world endpoint store0.old store1.old) slot ticket body.now }
+    ensures leaves { outcome result.answer (world result.endpoint store0.new store1.new) ≡ completed (world endpoint store0.old store1.old) slot ticket body.now }
     ensures valid { Valid result.endpoint }
 {
     if wrong_stores(store0.len(), store1.len()) {

@@ -87,8 +87,8 @@ fn take_number(answer: TakeAnswer) -> u8
 
 // The line of a poll, and its length.
 fn poll_line(line: &mut [u8], buffer: &[u8], answer: PollAnswer) -> usize
-    requires line_room_in_bounds { (line_room ≤ length line.old) × (length buffer.now ≤ packet_room) }
-    requires by_index { (n : ℕ) → answer ≡ PollAnswer.Packet n → n ≤ length buffer.now }
+    requires room { (line_room ≤ length line.old) × (length buffer.now ≤ packet_room) }
+    requires packet_fits { (n : ℕ) → answer ≡ PollAnswer.Packet n → n ≤ length buffer.now }
     ensures value { (result ≡ length (poll_line buffer.now answer)) × (result ≤ line_room) }
     ensures line_after { line.new ≡ Bytes.put line.old 0 (poll_line buffer.now answer) }
 {

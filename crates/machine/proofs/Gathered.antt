@@ -208,11 +208,11 @@ same_whole : {a b : List ℕ} → whole a ≡ whole b → a ≡ b
 same_whole e = cc
 
 pub cut_gathered : CutGathered
-cut_gathered eid unit store0 store1 a b xs i is route message m to-us inward some fits k =
+cut_gathered eid unit store0 store1 a b xs i is route message m to_us inward some fits k =
     let h = run xs (start eid unit store0 store1) in
     let n = (good_every eid unit store0 store1 a b xs).sound.state.numbers in
     same_whole
     (sym (gathers_all eid unit store0 store1 a b xs i is (cut (unit_of h.world) route message) m k)
-    ∙ ap (λ (x : ℕ). gather x (unit_of h.world) 4224 true (gathering_at h i) (cut (unit_of h.world) route message)) (sym to-us)
+    ∙ ap (λ (x : ℕ). gather x (unit_of h.world) 4224 true (gathering_at h i) (cut (unit_of h.world) route message)) (sym to_us)
     ∙ ap (λ (x : Bool). gather route.destination (unit_of h.world) 4224 x (gathering_at h i) (cut (unit_of h.world) route message)) (sym inward)
     ∙ gather_cut (unit_of h.world) 4224 route message (gathering_at h i) (omega (arith, n.unit_least)) some fits)

@@ -36,7 +36,7 @@ use Rattle.machine.proofs.Receiving.{Units, Joining, filled, grown, whole, Contr
 use Rattle.machine.proofs.Primitives.{is_primitive_lem, acting}
 use Rattle.machine.proofs.Keeps.{received_sound, chosen_at, step_sound}
 use Rattle.machine.proofs.Places.{Which, this, that, which, slot_this, slot_that, slot_both}
-use Rattle.machine.proofs.Touches.{Touched, alone, handed, fixed, ended as timed_out_lem, Touches, take_touches, complete_touches, declare_touches, timeout_touches}
+use Rattle.machine.proofs.Touches.{Touched, alone, handed, fixed, ended as ended_by_timeout, Touches, take_touches, complete_touches, declare_touches, timeout_touches}
 use Rattle.machine.proofs.Fits.{Fit}
 use Rattle.machine.proofs.Received.{Mid, for_this, for_that, front, in_process, command, e₁, e₂, w₂, e₂_valid, this_at, that_at, start_mid, ended_mid}
 use Rattle.machine.proofs.Polling.{PollCase, still, replies, sends, poll_case}
@@ -87,7 +87,7 @@ touched_flagged e f k j js = by (k j js)
     by (alone q) n = rw q refl
     by (handed r can p q) n = rw q refl
     by (fixed r x p q) n = rw q refl
-    by (timed_out_lem p q) n = idle_no (ap (λ (x : Slot). x.phase) q) n
+    by (ended_by_timeout p q) n = idle_no (ap (λ (x : Slot). x.phase) q) n
 
 reset_flagged : (e : Endpoint) → Flagged e (was_reset e).endpoint
 unfolding was_reset

@@ -28,9 +28,9 @@ is_control_lem w p c =
     let n : length p ≡ 16 = omega (arith, rw (length-drop 4 p) at c.twelve) in
     rw (eq-eqb (length p) 16 n, r.version, r.ours, c.som, c.eom, r.direction, c.typed, c.request, c.kind, c.right) refl
 
-unfaulted : (h : MessageHeader) (opcode : ℕ) (no_parameter_lem : Bool) → control_fault h opcode no_parameter_lem ≡ NoFault → (h.meb ≡ false) × (h.ciap ≡ false)
+unfaulted : (h : MessageHeader) (opcode : ℕ) (none_given : Bool) → control_fault h opcode none_given ≡ NoFault → (h.meb ≡ false) × (h.ciap ≡ false)
 unfolding control_fault
-unfaulted h opcode no_parameter_lem e =
+unfaulted h opcode none_given e =
     let a = if_second h.meb (λ k. differ (cc k)) e in
     let b = if_second h.ciap (λ k. differ (cc k)) a.1 in
     (a.0, b.0)

@@ -33,7 +33,7 @@ use Rattle.machine.specs.Types.{Response, Outgoing, Held, NoResponse, Last, Phas
 use Rattle.machine.proofs.Slots.{held_idle, facts_at, other_most}
 use Rattle.machine.proofs.Receiving.{is_command_lem, Joining, filled, grown, whole, Ground, in_table, of_control, of_no_slot, Busy, Gathering, Break, in_sequence, in_size, in_total, Walk, walked, receives_gathers}
 use Rattle.machine.proofs.Places.{Which, this, that, which, slot_this, slot_that, slot_both}
-use Rattle.machine.proofs.Touches.{Touched, alone, handed, fixed, ended as timed_out_lem, take_touches, complete_touches, declare_touches, timeout_touches}
+use Rattle.machine.proofs.Touches.{Touched, alone, handed, fixed, ended as ended_by_timeout, take_touches, complete_touches, declare_touches, timeout_touches}
 use Rattle.machine.proofs.Fits.{Fit, Full, Going, goes, quiet_begins}
 use Rattle.machine.proofs.Received.{Mid, for_this, for_that, command, e₂, w₂, e₂_valid, in_process, that_phase, start_mid, ended_mid}
 use Rattle.machine.proofs.Primitives.{acting}
@@ -385,7 +385,7 @@ touched_holds : {s t : Slot} → Touched s t → held_in t.phase ≡ held_in s.p
 touched_holds (alone q) = ap (λ (x : Slot). held_in x.phase) q
 touched_holds (handed r can p q) = rw (q, p) refl
 touched_holds {s} (fixed r x p q) = rw (q, p) (settled_none s.paused x)
-touched_holds {s} (timed_out_lem p q) = rw q (sym (receive_none s.phase p))
+touched_holds {s} (ended_by_timeout p q) = rw q (sym (receive_none s.phase p))
   where
     receive_none : (p : Phase) → is_receive p ≡ true → held_in p ≡ NoResponse
     receive_none (Idle held) h = false_true h

@@ -85,13 +85,13 @@ pub apart_new_right : (p : Phase) (b : Assembly) → gathers b.source b.tag p �
 apart_new_right p b h = rw h refl
 
 -- the other slot does not gather under an assembly's source and tag
-not-true : (b : Bool) → not b ≡ true → b ≡ false
-not-true true e = sym e
-not-true false e = refl
+not_true : (b : Bool) → not b ≡ true → b ≡ false
+not_true true e = sym e
+not_true false e = refl
 
 other_apart : (a : Assembly) (q : Phase) → apart (Receive a) q ≡ true → gathers a.source a.tag q ≡ false
 other_apart a (Idle held) h = refl
-other_apart a (Receive b) h = from_sym b a (not-true (is_from b.source b.tag a) h)
+other_apart a (Receive b) h = from_sym b a (not_true (is_from b.source b.tag a) h)
 other_apart a (Process r) h = refl
 other_apart a (Answered r) h = refl
 other_apart a (Transmit r) h = refl
@@ -100,7 +100,7 @@ other_apart a (Transmit r) h = refl
 alone : {unit turn : ℕ} {l : List Slot} (i : ℕ) → i ≤ 1 → ValidSlots unit turn l → (a : Assembly) → (get_or l i (fresh (ticket 0))).phase ≡ Receive a
     → gathers a.source a.tag (get_or l (other_slot i) (fresh (ticket 0))).phase ≡ false
 alone zero h (two {s} {t} vs vt k) a e = other_apart a t.phase (rw e at k)
-alone (suc zero) h (two {s} {t} vs vt k) a e = not-true (gathers a.source a.tag s.phase) (rw e at k)
+alone (suc zero) h (two {s} {t} vs vt k) a e = not_true (gathers a.source a.tag s.phase) (rw e at k)
 alone (suc (suc n)) h v a e = absurd (omega arith)
 
 pub alone_at : {e : Endpoint} (i : ℕ) → i ≤ 1 → Valid e → (a : Assembly) → (slot_at e i).phase ≡ Receive a

@@ -203,7 +203,7 @@ fn turn(
     space: &mut [u8],
 ) -> Session
     requires kept { Kept session }
-    requires store0_len { (length store0.old ≡ 4300) × (length store1.old ≡ 4300) × (length store.old ≡ 4300) × (65536 ≤ length space.old) }
+    requires sizes { (length store0.old ≡ 4300) × (length store1.old ≡ 4300) × (length store.old ≡ 4300) × (65536 ≤ length space.old) }
     ensures { Kept result }
 {
     let next = next_record(rt, stdin, space);

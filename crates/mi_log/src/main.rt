@@ -92,9 +92,9 @@ fn written(rt: &(impl Print + Eprint), out: &[u8]) -> bool {
 // fails ends the run.
 fn with_room(rt: &(impl Print + Eprint), out: &[u8], r: Run) -> Run
     requires put_in_bounds { r.put ≤ length out.now }
-    requires line_room_in_bounds { line_room ≤ length out.now }
-    ensures by_index { (input a b : List ℕ) → held result input out.now a b ≡ flushed result.on (held r input out.now a b) }
-    ensures line_room_in_bounds_2 { result.on ≡ true → result.put + line_room ≤ length out.now }
+    requires line_fits { line_room ≤ length out.now }
+    ensures leaves { (input a b : List ℕ) → held result input out.now a b ≡ flushed result.on (held r input out.now a b) }
+    ensures room_left { result.on ≡ true → result.put + line_room ≤ length out.now }
 {
     if !r.on {
         return r;
@@ -146,8 +146,8 @@ fn printed(
     body: &[u8],
 ) -> Answer
     requires { Valid session.endpoint × (is_record tag (length body.now) ≡ true) × (put + line_room ≤ length out.old) }
-    ensures store1_after { printed_to result out.new store0.new store1.new ≡ printed_at put out.old (recorded session store0.old store1.old tag body.now) }
-    ensures length_le_line_room { (result.length ≤ line_room) × Valid result.session.endpoint }
+    ensures leaves { printed_to result out.new store0.new store1.new ≡ printed_at put out.old (recorded session store0.old store1.old tag body.now) }
+    ensures short_and_valid { (result.length ≤ line_room) × Valid result.session.endpoint }
 {
     let line = &mut out[put..];
     log_session::record(session, store0, store1, tag, body, line)
@@ -164,7 +164,7 @@ fn one(
     n: usize,
 ) -> Run
     requires { Roomy r r.end (length out.old) × (is_record tag n ≡ true) × (head_size + n ≤ length input.now) × (r.at + length input.now ≡ r.end) }
-    ensures store1_after { held result (drop (head_size + n) input.now) out.new store0.new store1.new ≡ after_record (held r input.now out.old store0.old store1.old) n (recorded r.session store0.old store1.old tag (take n (drop head_size input.now))) }
+    ensures leaves { held result (drop (head_size + n) input.now) out.new store0.new store1.new ≡ after_record (held r input.now out.old store0.old store1.old) n (recorded r.session store0.old store1.old tag (take n (drop head_size input.now))) }
     ensures within { Within result r.end (length out.new) }
 {
     let to = HEAD_SIZE + n;
@@ -191,7 +191,7 @@ fn one(
 // One turn: one record, `bad`, or asking for more input.
 fn turn(buf: &[u8], out: &mut [u8], store0: &mut [u8], store1: &mut [u8], r: Run) -> Run
     requires { Roomy r (length buf.now) (length out.old) }
-    ensures store1_after { held result (unread result buf.now) out.new store0.new store1.new ≡ turned (held r (unread r buf.now) out.old store0.old store1.old) }
+    ensures leaves { held result (unread result buf.now) out.new store0.new store1.new ≡ turned (held r (unread r buf.now) out.old store0.old store1.old) }
     ensures within { Within result (length buf.now) (length out.new) }
 {
     let at = r.at;
@@ -214,8 +214,8 @@ fn all(
     store0: &mut [u8],
     store1: &mut [u8],
 ) -> Run
-    requires line_room_in_bounds { (line_room ≤ length out.old) × (length out.old ≤ 65536) }
-    requires store0_value { (store0.old ≡ replicate store_size 0) × (store1.old ≡ replicate store_size 0) }
+    requires out_size { (line_room ≤ length out.old) × (length out.old ≤ 65536) }
+    requires stores_zero { (store0.old ≡ replicate store_size 0) × (store1.old ≡ replicate store_size 0) }
     ensures put_in_bounds { result.put ≤ length out.new }
     ensures ran { Ran (held result (unread result buf.new) out.new store0.new store1.new) }
 {

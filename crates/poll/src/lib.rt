@@ -53,8 +53,8 @@ fn chosen(endpoint: Endpoint) -> Ready
     let turn = endpoint.turn;
     let other = other_slot(turn);
     let last = sending_or(other, phase_of(endpoint, other), Ready::Nothing);
-    let by_turn_lem = sending_or(turn, phase_of(endpoint, turn), last);
-    let begun = begun_or(1, phase_of(endpoint, 1), by_turn_lem);
+    let by_turn = sending_or(turn, phase_of(endpoint, turn), last);
+    let begun = begun_or(1, phase_of(endpoint, 1), by_turn);
     begun_or(0, phase_of(endpoint, 0), begun)
 }
 
@@ -82,7 +82,7 @@ fn polled_by(
     next: Ready,
 ) -> PollDone
     requires valid { Valid endpoint × (next ≡ Poll.ready endpoint) }
-    requires store0_len { (length store0.now ≡ store_size) × (length store1.now ≡ store_size) × (packet_room endpoint ≤ length buffer.old) }
+    requires sizes { (length store0.now ≡ store_size) × (length store1.now ≡ store_size) × (packet_room endpoint ≤ length buffer.old) }
     ensures { polled_to result.answer result.endpoint buffer.new ≡ polled_by (world endpoint store0.now store1.now) buffer.old next }
 {
     let Ready::From(slot, outgoing) = next else {
@@ -104,7 +104,7 @@ fn polled_by(
 #[tactic(auto, unfolding(machine::specs::Poll::polled))]
 pub fn poll(endpoint: Endpoint, store0: &[u8], store1: &[u8], buffer: &mut [u8]) -> PollDone
     requires { Valid endpoint }
-    ensures buffer_after { polled_to result.answer result.endpoint buffer.new ≡ polled (world endpoint store0.now store1.now) buffer.old }
+    ensures leaves { polled_to result.answer result.endpoint buffer.new ≡ polled (world endpoint store0.now store1.now) buffer.old }
     ensures answer_value { (poll_says result.answer).0 ≡ poll_number (world endpoint store0.now store1.now) buffer.old }
     ensures valid { Valid result.endpoint }
 {

@@ -26,7 +26,7 @@ fn route_to(endpoint: Endpoint, requester: u8, tag: u8) -> Route
 
 // A slot after another packet of its response: Idle if that was the last, and it holds the response.
 fn after_packet(unit: usize, slot: Slot, outgoing: Outgoing) -> Slot
-    requires unit_nonzero { (0 < unit) × (unit ≤ most_unit) }
+    requires unit_bounds { (0 < unit) × (unit ≤ most_unit) }
     requires sent_bound { (unit * outgoing.sent < outgoing.response.length) × (outgoing.response.length ≤ store_size) }
     ensures { result ≡ after_packet unit slot outgoing }
 {
@@ -70,9 +70,9 @@ fn sent_from(
     outgoing: Outgoing,
     buffer: &mut [u8],
 ) -> PollDone
-    requires unit_nonzero { (0 < endpoint.unit) × (endpoint.unit ≤ most_unit) }
+    requires unit_bounds { (0 < endpoint.unit) × (endpoint.unit ≤ most_unit) }
     requires slot_bound { (slot < 2) × (endpoint.unit * outgoing.sent < outgoing.response.length) × (outgoing.response.length ≤ store_size) }
-    requires store_len { (length store.now ≡ store_size) × (packet_room endpoint ≤ length buffer.old) }
+    requires sizes { (length store.now ≡ store_size) × (packet_room endpoint ≤ length buffer.old) }
     ensures { polled_to result.answer result.endpoint buffer.new ≡ sent_command (world endpoint store.now store.now) slot outgoing buffer.old }
 {
     let unit = endpoint.unit as usize;
@@ -100,9 +100,9 @@ pub fn sent_command(
     outgoing: Outgoing,
     buffer: &mut [u8],
 ) -> PollDone
-    requires unit_nonzero { (0 < endpoint.unit) × (endpoint.unit ≤ most_unit) }
+    requires unit_bounds { (0 < endpoint.unit) × (endpoint.unit ≤ most_unit) }
     requires slot_bound { (slot < 2) × (endpoint.unit * outgoing.sent < outgoing.response.length) × (outgoing.response.length ≤ store_size) }
-    requires store0_len { (length store0.now ≡ store_size) × (length store1.now ≡ store_size) × (packet_room endpoint ≤ length buffer.old) }
+    requires sizes { (length store0.now ≡ store_size) × (length store1.now ≡ store_size) × (packet_room endpoint ≤ length buffer.old) }
     ensures { polled_to result.answer result.endpoint buffer.new ≡ sent_command (world endpoint store0.now store1.now) slot outgoing buffer.old }
 {
     if slot == 0 {

@@ -51,7 +51,7 @@ fn first(
 #[tactic(auto, unfolding(machine::specs::Receive::received))]
 pub fn receive(endpoint: Endpoint, store0: &mut [u8], store1: &mut [u8], packet: &[u8]) -> Done
     requires { Valid endpoint }
-    ensures store1_after { outcome result.answer (world result.endpoint store0.new store1.new) ≡ received (world endpoint store0.old store1.old) packet.now }
+    ensures leaves { outcome result.answer (world result.endpoint store0.new store1.new) ≡ received (world endpoint store0.old store1.old) packet.now }
     ensures valid { Valid result.endpoint }
 {
     if wrong_stores(store0.len(), store1.len()) {

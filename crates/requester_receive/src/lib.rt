@@ -193,7 +193,7 @@ fn later(requester: Requester, store: &mut [u8], header: Header, payload: &[u8])
 // Receives one packet. 40 a store of another length; 10 to 23 a refusal; more to come; or a response or a control reply, with its length.
 pub fn receive(requester: Requester, store: &mut [u8], packet: &[u8]) -> ReceiveDone
     requires { Valid requester }
-    ensures store_after { outcome result.answer (side result.requester store.new) ≡ received (side requester store.old) packet.now }
+    ensures leaves { outcome result.answer (side result.requester store.new) ≡ received (side requester store.old) packet.now }
     ensures answer_value { receive_says result.answer ≡ receive_numbers (side requester store.old) packet.now }
     ensures valid { Valid result.requester }
 {

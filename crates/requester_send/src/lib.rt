@@ -32,7 +32,7 @@ fn route_from(requester: Requester, destination: u8, tag: u8) -> Route
 // Writes all packets of a message end to end to the front of `out`, and returns how many bytes they have. Bytes behind them stay.
 #[tactic(auto, unfolding(mctp::specs::Cut::cut))]
 fn write_cut(unit: usize, route: Route, message: &[u8], out: &mut [u8]) -> usize
-    requires unit_nonzero { (0 < unit) × (unit ≤ most_unit) }
+    requires unit_bounds { (0 < unit) × (unit ≤ most_unit) }
     requires message_len_bound { (length message.now ≤ store_size) × (length (end_to_end (Cut.cut unit route message.now)) ≤ length out.old) }
     ensures value { result ≡ length (end_to_end (Cut.cut unit route message.now)) }
     ensures out_after { out.new ≡ end_to_end (Cut.cut unit route message.now) ++ drop result out.old }
@@ -58,7 +58,7 @@ pub fn cut(
     buffer: &mut [u8],
 ) -> SendAnswer
     requires { Valid requester }
-    ensures buffer_after { sent_to result buffer.new ≡ cut_to requester destination tag message.now buffer.old }
+    ensures leaves { sent_to result buffer.new ≡ cut_to requester destination tag message.now buffer.old }
     ensures result_value { send_says result ≡ cut_numbers requester.unit tag message.now buffer.old }
 {
     let n = message.len();
@@ -99,7 +99,7 @@ pub fn primitive(
     buffer: &mut [u8],
 ) -> SendAnswer
     requires { Valid requester }
-    ensures buffer_after { sent_to result buffer.new ≡ primitive_to requester destination tag asked buffer.old }
+    ensures leaves { sent_to result buffer.new ≡ primitive_to requester destination tag asked buffer.old }
     ensures result_value { send_says result ≡ primitive_numbers tag asked buffer.old }
 {
     let slot = asked.slot;

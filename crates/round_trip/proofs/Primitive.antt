@@ -173,12 +173,12 @@ module _ (w : World) (ok : Sound w) (r : Requester) (tag : ℕ) (p : Primitive) 
       rw (replied_so.to, replied_so.eid_is, under, replied_so.reply_is) refl
 
   comes_by : (v : Event) → v ≡ handed_out (reply_packet after.endpoint) → Comes r.eid w.endpoint.eid tag after.endpoint.reply v
-  comes_by v e s ok-s size ours awaited =
+  comes_by v e s ok_s size ours awaited =
       let same_packet : bytes_handed_out v ≡ 1 ∷ r.eid ∷ w.endpoint.eid ∷ (0xC0 + tag % 8) ∷ reply_with (csi_of (bytes_from4 request)) (body_of (bytes_from4 request) cpsr) =
       ap bytes_handed_out e ∙ goes_as in
       let small : tag % 8 ≡ tag = mod-eq_of_lt (omega arith) in
       rw (same_packet, replied_so.reply_is)
-      (comes s ok-s size r.eid w.endpoint.eid tag (csi_of (bytes_from4 request)) (body_of (bytes_from4 request) cpsr)
+      (comes s ok_s size r.eid w.endpoint.eid tag (csi_of (bytes_from4 request)) (body_of (bytes_from4 request) cpsr)
       (omega (arith, mod-lt (byte_at (bytes_from4 request) 1) (zero-lt-suc 1))) (body_four (bytes_from4 request) cpsr) (sym ours)
       (ap (λ (x : ℕ). is_awaited w.endpoint.eid x s.requester.awaiting) small ∙ awaited))
 

@@ -6,8 +6,8 @@ use Rattle.exchange.proofs.one_poll.Goals as goal
 
 pub slice_bounds-buffer-end : goal.slice_bounds-buffer-end
 slice_bounds-buffer-end g c =
-    omega (arith, packet_fits _ (replicate 254 0) _ c.poll-done.ensures.buffer_after (search rules) _ c.in-Packet.is)
+    omega (arith, packet_fits _ (replicate 254 0) _ c.poll-done.ensures.leaves (search rules) _ c.in-Packet.is)
 
 pub slice_bounds-gathered-end : goal.slice_bounds-gathered-end
 slice_bounds-gathered-end g c =
-    simp length-take (omega (arith, packet_fits _ (replicate 254 0) _ c.poll-done.ensures.buffer_after (search rules) _ c.in-Packet.is))
+    simp length-take (omega (arith, packet_fits _ (replicate 254 0) _ c.poll-done.ensures.leaves (search rules) _ c.in-Packet.is))

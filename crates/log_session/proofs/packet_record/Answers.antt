@@ -2,4 +2,4 @@
 use Rattle.log_session.proofs.packet_record.Goals as goal
 
 pub returns : goal.returns
-returns c = rw (← c.receive-done.ensures.store1_after) (c.numbered.ensures _ _)
+returns c = rw (← c.receive-done.ensures.leaves) (c.numbered.ensures _ _)

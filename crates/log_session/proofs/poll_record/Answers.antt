@@ -6,8 +6,8 @@ use Rattle.log_records.specs.Records.{packet_room}
 use Rattle.poll.proofs.Fits.{packet_fits}
 use Rattle.log_session.proofs.poll_record.Goals as goal
 
-pub poll_line-length-requires-clause-by_index : goal.poll_line-length-requires-clause-by_index
-poll_line-length-requires-clause-by_index c = λ n e.
+pub poll_line-length-requires-clause-packet_fits : goal.poll_line-length-requires-clause-packet_fits
+poll_line-length-requires-clause-packet_fits c = λ n e.
     let a = c.args in
-    let most = packet_fits (world a.session.endpoint a.store0.now a.store1.now) (replicate packet_room 0) _ c.poll-done.ensures.buffer_after (search rules) n e in
+    let most = packet_fits (world a.session.endpoint a.store0.now a.store1.now) (replicate packet_room 0) _ c.poll-done.ensures.leaves (search rules) n e in
     omega arith

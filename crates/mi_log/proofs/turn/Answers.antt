@@ -13,8 +13,8 @@ one-requires c =
     let facts = rw (sym c.read_head-head.ensures ∙ c.in-Record.is) at (whole (unread a.r a.buf.now)) in
     (roomy_end c.requires, facts.0, facts.1, simp (length-take, length-drop) (omega arith))
 
-pub returns-in-Bad-clause-store1_after : goal.returns-in-Bad-clause-store1_after
-returns-in-Bad-clause-store1_after c =
+pub returns-in-Bad-clause-leaves : goal.returns-in-Bad-clause-leaves
+returns-in-Bad-clause-leaves c =
     let a = c.args in
     let input = unread a.r a.buf.now in
     by_head_lem (held a.r input a.out.now a.store0.now a.store1.now) Bad (sym c.read_head-head.ensures ∙ c.in-Bad.is)
@@ -27,8 +27,8 @@ returns-in-Bad-clause-within c =
     let h = held a.r input a.out.now a.store0.now a.store1.now in
     within_as (over_within h bad_line (omega arith) c.requires) (ap (λ (x : Held). x.run) (c.bad.ensures input a.store0.now a.store1.now)) (le_refl _) c.bad.auto.out
 
-pub returns-in-More-clause-store1_after : goal.returns-in-More-clause-store1_after
-returns-in-More-clause-store1_after c =
+pub returns-in-More-clause-leaves : goal.returns-in-More-clause-leaves
+returns-in-More-clause-leaves c =
     let a = c.args in
     let input = unread a.r a.buf.now in
     let h = held a.r input a.out.now a.store0.now a.store1.now in
@@ -41,9 +41,9 @@ returns-in-More-clause-within c =
     let h = held a.r input a.out.now a.store0.now a.store1.now in
     within_as (missed_within h c.requires) (ap (λ (x : Held). x.run) (c.missing.ensures a.store0.now a.store1.now)) (le_refl _) c.missing.auto.out
 
-pub returns-in-Record-clause-store1_after : goal.returns-in-Record-clause-store1_after
-returns-in-Record-clause-store1_after c =
+pub returns-in-Record-clause-leaves : goal.returns-in-Record-clause-leaves
+returns-in-Record-clause-leaves c =
     let a = c.args in
     let input = unread a.r a.buf.now in
     let h = held a.r input a.out.now a.store0.now a.store1.now in
-    by_head_lem h (Record _ _) (sym c.read_head-head.ensures ∙ c.in-Record.is) (input_is a.buf.now c.one.ensures.store1_after (unread_behind a.r a.buf.now _))
+    by_head_lem h (Record _ _) (sym c.read_head-head.ensures ∙ c.in-Record.is) (input_is a.buf.now c.one.ensures.leaves (unread_behind a.r a.buf.now _))

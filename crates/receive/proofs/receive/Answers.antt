@@ -34,8 +34,8 @@ module _ (w : World) (packet : List ℕ) (s : wrong_stores w ≡ false) {r : Rea
 valid_by : (w : World) (packet : List ℕ) {n : ℕ} {e : Endpoint} {a b : List ℕ} → Valid w.endpoint → outcome n (world e a b) ≡ received w packet → Valid e
 valid_by w packet v q = subst (λ (o : Outcome). Valid o.world.endpoint) (sym q) (received_valid w packet v)
 
-pub returns-in_default-clause-store1_after : goal.returns-in_default-clause-store1_after
-returns-in_default-clause-store1_after c =
+pub returns-in_default-clause-leaves : goal.returns-in_default-clause-leaves
+returns-in_default-clause-leaves c =
     let w = world c.args.endpoint c.args.store0.now c.args.store1.now in
     let right = sym c.wrong_stores.ensures ∙ c.if-wrong_stores.false in
     let row = by_refused w c.args.packet.now right c.read_header-read.ensures.value c.in_default.is c.refusal_of.ensures in
@@ -44,7 +44,7 @@ returns-in_default-clause-store1_after c =
 pub returns-in_default-clause-valid : goal.returns-in_default-clause-valid
 returns-in_default-clause-valid c =
     let w = world c.args.endpoint c.args.store0.now c.args.store1.now in
-    valid_by w c.args.packet.now c.requires (returns-in_default-clause-store1_after c)
+    valid_by w c.args.packet.now c.requires (returns-in_default-clause-leaves c)
 
 pub returns-then-header-clause-valid : goal.returns-then-header-clause-valid
 returns-then-header-clause-valid c =

@@ -40,33 +40,33 @@ module _ (s : Side) (packet : List ℕ) {h : Header} (l : length s.store ≡ sto
 wide : {x : Side} (s : Side) (source tag : ℕ) → Valid s.requester → x ≡ restarted source tag s → 8 ≤ x.requester.unit
 wide s source tag v e = rw e (restarted_unit source tag s (omega (arith, v.unit_least)))
 
-pub returns-then-store-ne-STORE_SIZE-clause-store_after :
-    goal.returns-then-store-ne-STORE_SIZE-clause-store_after
+pub returns-then-store-ne-STORE_SIZE-clause-leaves :
+    goal.returns-then-store-ne-STORE_SIZE-clause-leaves
 unfolding received
-returns-then-store-ne-STORE_SIZE-clause-store_after c = rw (ne_eqb _ _ c.if-store-ne-STORE_SIZE.true) (c.refused.ensures _)
+returns-then-store-ne-STORE_SIZE-clause-leaves c = rw (ne_eqb _ _ c.if-store-ne-STORE_SIZE.true) (c.refused.ensures _)
 
 pub returns-then-store-ne-STORE_SIZE-clause-answer_value :
     goal.returns-then-store-ne-STORE_SIZE-clause-answer_value
 returns-then-store-ne-STORE_SIZE-clause-answer_value c =
-    numbered _ _ c.requires (returns-then-store-ne-STORE_SIZE-clause-store_after c)
+    numbered _ _ c.requires (returns-then-store-ne-STORE_SIZE-clause-leaves c)
 
 pub returns-then-store-ne-STORE_SIZE-clause-valid :
     goal.returns-then-store-ne-STORE_SIZE-clause-valid
 returns-then-store-ne-STORE_SIZE-clause-valid c =
-    stays (side c.args.requester c.args.store.now) c.args.packet.now c.requires (returns-then-store-ne-STORE_SIZE-clause-store_after c)
+    stays (side c.args.requester c.args.store.now) c.args.packet.now c.requires (returns-then-store-ne-STORE_SIZE-clause-leaves c)
 
-pub returns-in_default-clause-store_after : goal.returns-in_default-clause-store_after
+pub returns-in_default-clause-leaves : goal.returns-in_default-clause-leaves
 unfolding received
-returns-in_default-clause-store_after c =
+returns-in_default-clause-leaves c =
     c.refused-in_default.ensures _
     ∙ rw (c.refusal_of.ensures ∙ ap (λ (x : Read). (read_says x).0) c.in_default.is, eq-eqb _ _ c.if-store-ne-STORE_SIZE.false, ← c.in_default.ensures.value)
 
 pub returns-in_default-clause-answer_value : goal.returns-in_default-clause-answer_value
-returns-in_default-clause-answer_value c = numbered _ _ c.requires (returns-in_default-clause-store_after c)
+returns-in_default-clause-answer_value c = numbered _ _ c.requires (returns-in_default-clause-leaves c)
 
 pub returns-in_default-clause-valid : goal.returns-in_default-clause-valid
 returns-in_default-clause-valid c =
-    stays (side c.args.requester c.args.store.now) c.args.packet.now c.requires (returns-in_default-clause-store_after c)
+    stays (side c.args.requester c.args.store.now) c.args.packet.now c.requires (returns-in_default-clause-leaves c)
 
 pub first-requires : goal.first-requires
 first-requires c =
@@ -79,28 +79,28 @@ first-requires c =
       wide (side a.requester a.store.now) h.source h.tag c.requires (c.restarted-anew.ensures a.store.now),
     )
 
-pub returns-then-header-clause-store_after : goal.returns-then-header-clause-store_after
-returns-then-header-clause-store_after c =
+pub returns-then-header-clause-leaves : goal.returns-then-header-clause-leaves
+returns-then-header-clause-leaves c =
     let s = side c.args.requester c.args.store.now in
     let row = by_first s c.args.packet.now c.if-store-ne-STORE_SIZE.false (sym c.in-Packet.ensures.value) c.if-header.true (c.restarted-anew.ensures _) in
     c.first.ensures ∙ rw (rest 4) row
 
 pub returns-then-header-clause-answer_value : goal.returns-then-header-clause-answer_value
-returns-then-header-clause-answer_value c = numbered _ _ c.requires (returns-then-header-clause-store_after c)
+returns-then-header-clause-answer_value c = numbered _ _ c.requires (returns-then-header-clause-leaves c)
 
 pub returns-then-header-clause-valid : goal.returns-then-header-clause-valid
 returns-then-header-clause-valid c =
-    stays (side c.args.requester c.args.store.now) c.args.packet.now c.requires (returns-then-header-clause-store_after c)
+    stays (side c.args.requester c.args.store.now) c.args.packet.now c.requires (returns-then-header-clause-leaves c)
 
-pub returns-clause-store_after : goal.returns-clause-store_after
-returns-clause-store_after c =
+pub returns-clause-leaves : goal.returns-clause-leaves
+returns-clause-leaves c =
     let s = side c.args.requester c.args.store.now in
     let row = by_later s c.args.packet.now c.if-store-ne-STORE_SIZE.false (sym c.in-Packet.ensures.value) c.if-header.false in
     c.later.ensures ∙ rw (rest 4) row
 
 pub returns-clause-answer_value : goal.returns-clause-answer_value
-returns-clause-answer_value c = numbered _ _ c.requires (returns-clause-store_after c)
+returns-clause-answer_value c = numbered _ _ c.requires (returns-clause-leaves c)
 
 pub returns-clause-valid : goal.returns-clause-valid
 returns-clause-valid c =
-    stays (side c.args.requester c.args.store.now) c.args.packet.now c.requires (returns-clause-store_after c)
+    stays (side c.args.requester c.args.store.now) c.args.packet.now c.requires (returns-clause-leaves c)

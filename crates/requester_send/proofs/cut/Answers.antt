@@ -18,8 +18,8 @@ unfolding cut_to
 passed r destination tag message buffer low high small =
     rw (le-ltb (length message) 8 low, le-ltb 4224 (length message) high, le-ltb 7 tag small)
 
-pub returns-then-buffer-n-clause-buffer_after : goal.returns-then-buffer-n-clause-buffer_after
-returns-then-buffer-n-clause-buffer_after c =
+pub returns-then-buffer-n-clause-leaves : goal.returns-then-buffer-n-clause-leaves
+returns-then-buffer-n-clause-leaves c =
     let a = c.args in
     rw (passed a.requester a.destination a.tag a.message.now a.buffer.now (omega arith) (omega arith) (omega arith))
     (too_short _ _ (cut_length _ _ _ (omega arith)) (omega arith))

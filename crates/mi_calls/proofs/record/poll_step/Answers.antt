@@ -4,4 +4,4 @@ use Rattle.poll.proofs.Fits.{packet_fits}
 use Rattle.mi_calls.proofs.record.poll_step.Goals as goal
 
 pub poll_words-requires : goal.poll_words-requires
-poll_words-requires g c = λ n e. omega (arith, packet_fits _ _ _ c.poll-done.ensures.buffer_after (search rules) n e)
+poll_words-requires g c = λ n e. omega (arith, packet_fits _ _ _ c.poll-done.ensures.leaves (search rules) n e)
