@@ -36,7 +36,7 @@ pub const LINE_ROOM: usize = 2 * PACKET_ROOM + 3;
 const NEWLINE: u8 = 10;
 
 // What stands at the front of the unread bytes: no record, bytes are missing, or a whole record's tag and length.
-#[derive(Drop)]
+#[derive(Clone, Copy)]
 pub enum Head {
     Bad,
     More,

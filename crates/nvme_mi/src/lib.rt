@@ -127,6 +127,7 @@ pub fn command_fault(header: MessageHeader, n: usize) -> Fault
 }
 
 // The tests of a control primitive with this opcode, and whether its CPSP is 0: a Replay takes no other.
+#[tactic(auto, unfolding(crate::specs::Message::control_fault))]
 pub fn control_fault(header: MessageHeader, opcode: u8, no_parameter: bool) -> Fault
     ensures { result ≡ control_fault header opcode no_parameter }
 {
