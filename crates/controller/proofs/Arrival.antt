@@ -10,14 +10,15 @@ use native.Mathlib.Omega.{arith}
 use lib.Dec.{eqb, eqb-suc-zero}
 use lib.ListN.{length, take, drop, length-take}
 use borrow.Author.Tests.{eqb-true, eq-eqb}
+use Rattle.std.specs.Prelude.{Result, Ok}
 use Rattle.lent.specs.Bytes.{put}
-use Rattle.lent.proofs.Choice.{false_true, and_both}
+use Rattle.std.proofs.lemmas.Bool.{and_parts}
+use Rattle.lent.proofs.Choice.{false_true}
 use Rattle.mctp.specs.Header.{read_header, payload_of}
 use Rattle.mctp.specs.Cut.{packets, payload, packet, cut}
 use Rattle.mctp.specs.Gather.{join_refusal}
 use Rattle.mctp.specs.declared.Header.{Header}
 use Rattle.mctp.specs.declared.Route.{Route}
-use Rattle.mctp.specs.declared.Read.TheVariants.{Packet}
 use Rattle.mctp.proofs.Laws.{packets_bounds, header_of, read_of_cut}
 use Rattle.mctp.proofs.Gathering.{no_refusal}
 use Rattle.mctp.proofs.Feeding.{Leads, Fed, fed}
@@ -34,8 +35,8 @@ use Rattle.controller.specs.Receive.{receive_says, dropped, landed, gathered, re
 use Rattle.controller.specs.Grounds.{is_awaited}
 use Rattle.controller.specs.Arrival.{route_back, at_requester, wholly, Came, ResponseGathered}
 use Rattle.controller.specs.Types.{Awaiting, Nothing, Awaited, Gathering}
-use Rattle.controller.specs.declared.ReceiveAnswer.{ReceiveAnswer}
-use Rattle.controller.specs.declared.ReceiveAnswer.TheVariants.{More, Response}
+use Rattle.controller.specs.declared.Gathered.{Gathered}
+use Rattle.controller.specs.declared.Gathered.TheVariants.{More, Response}
 use Rattle.controller.proofs.Keeps.{end_of}
 
 -- ---- one packet
@@ -46,19 +47,19 @@ awaits_still source tag Nothing h = h
 awaits_still source tag (Awaited k) h = h
 awaits_still source tag (Gathering a) h = h
 
-received_is : (s : Side) (p : List ℕ) (h : Header) → length s.store ≡ store_size → read_header s.requester.eid s.requester.unit outward p ≡ Packet h
-    → received s p ≡ received_by s (payload_of p) (Packet h)
+received_is : (s : Side) (p : List ℕ) (h : Header) → length s.store ≡ store_size → read_header s.requester.eid s.requester.unit outward p ≡ Ok h
+    → received s p ≡ received_by s (payload_of p) (Ok h)
 unfolding received
 received_is s p h size e = rw size (ap (received_by s (payload_of p)) e)
 
 -- with SOM, a response that is awaited
-first_is : (s : Side) (h : Header) (m : List ℕ) → opened s.requester.unit true h m ≡ Command → awaits h.source h.tag s.requester.awaiting ≡ true
+first_is : (s : Side) (h : Header) (m : List ℕ) → opened s.requester.unit true h m ≡ Ok Command → awaits h.source h.tag s.requester.awaiting ≡ true
     → first s h m ≡ gathered s 0 h m
 unfolding first
 first_is s h m o a = ap (first_by s h m) o ∙ rw a refl
 
 -- without SOM, one that joins
-without_som : (s : Side) (h : Header) (p : List ℕ) → h.som ≡ false → received_by s p (Packet h) ≡ later s h p
+without_som : (s : Side) (h : Header) (p : List ℕ) → h.som ≡ false → received_by s p (Ok h) ≡ later s h p
 without_som s h p e = rw e refl
 
 later_is : (s : Side) (h : Header) (p : List ℕ) (a : Assembly) → s.requester.awaiting ≡ Gathering a → is_from h.source h.tag a ≡ true
@@ -66,7 +67,7 @@ later_is : (s : Side) (h : Header) (p : List ℕ) (a : Assembly) → s.requester
 unfolding later later_at
 later_is s h p a e f j = ap (later_by s h p) e ∙ rw (f, j) refl
 
-leads : {P : Side → Type 0} (s : Side) (p : List ℕ) (n : ReceiveAnswer) (t : Side) → received s p ≡ outcome n t → P t → Leads at_requester s p (receive_says n) P
+leads : {P : Side → Type 0} (s : Side) (p : List ℕ) (n : Result Gathered ℕ) (t : Side) → received s p ≡ outcome n t → P t → Leads at_requester s p (receive_says n) P
 leads s p n t so h = record { answered = rw so refl; leaves = rw so h }
 
 module _ (s₀ : Side) (source tag : ℕ) (m : List ℕ) (valid : Valid s₀.requester) (size : length s₀.store ≡ store_size) (small : tag ≤ 7) (good : WellFormed true m) where
@@ -112,11 +113,11 @@ module _ (s₀ : Side) (source tag : ℕ) (m : List ℕ) (valid : Valid s₀.req
   sized k s r inside =
       ap (λ (x : List ℕ). length x) r.store_is ∙ holding_length m (unit * k) s₀.store (omega arith) (rw size (omega (arith, good.short))) ∙ size
 
-  reading : (k : ℕ) (s : Side) → Ready k s → unit * k < length m → received s (packet unit route m k) ≡ received_by s (bytes k) (Packet (head k))
+  reading : (k : ℕ) (s : Side) → Ready k s → unit * k < length m → received s (packet unit route m k) ≡ received_by s (bytes k) (Ok (head k))
   reading k s r inside =
       received_is s (packet unit route m k) (head k) (sized k s r inside)
       (ap (λ (e : ℕ × ℕ). read_header e.0 e.1 outward (packet unit route m k)) r.ours ∙ read_of_cut unit route m k pos inside)
-      ∙ ap (λ (x : List ℕ). received_by s x (Packet (head k))) (unfold packet in refl)
+      ∙ ap (λ (x : List ℕ). received_by s x (Ok (head k))) (unfold packet in refl)
 
   lands : {k : ℕ} {s : Side} → Ready k s → unit * k < length m → ((t : Side) × Lands k s t)
   lands {k} {s} r inside = by k r s.requester.awaiting refl r.before inside
@@ -175,9 +176,9 @@ module _ (s₀ : Side) (source tag : ℕ) (m : List ℕ) (valid : Valid s₀.req
       by (t, l) =
           let put_so : put t.store (unit * k) (bytes k) ≡ after =
           ap (λ (x : List ℕ). put x (unit * k) (bytes k)) l.store_is ∙ put_more unit route m pos s₀.store k n in
-          let so : received s (packet unit route m k) ≡ outcome More (side (requester t.requester.eid t.requester.unit (Gathering (so_far k))) after) =
+          let so : received s (packet unit route m k) ≡ outcome (Ok More) (side (requester t.requester.eid t.requester.unit (Gathering (so_far k))) after) =
           l.received_so ∙ gathered_is k t after put_so ∙ joins_more unit route m pos (leading k (side t.requester after)) after k n in
-          leads s (packet unit route m k) More (side (requester t.requester.eid t.requester.unit (Gathering (so_far k))) after) so
+          leads s (packet unit route m k) (Ok More) (side (requester t.requester.eid t.requester.unit (Gathering (so_far k))) after) so
           (record { ours = l.ours; before = going refl; store_is = refl })
 
   last_packet : (k : ℕ) (s : Side) → Ready k s → k + 1 ≡ packets unit (length m) → Leads at_requester s (packet unit route m k) (1, length m ∷ []) (Came s₀ m)
@@ -193,10 +194,10 @@ module _ (s₀ : Side) (source tag : ℕ) (m : List ℕ) (valid : Valid s₀.req
       by (t, l) =
           let put_so : put t.store (unit * k) (bytes k) ≡ after =
           ap (λ (x : List ℕ). put x (unit * k) (bytes k)) l.store_is ∙ put_whole unit route m pos s₀.store k n in
-          let so : received s (packet unit route m k) ≡ outcome (Response (length m)) (side (requester t.requester.eid t.requester.unit Nothing) after) =
+          let so : received s (packet unit route m k) ≡ outcome (Ok (Response (length m))) (side (requester t.requester.eid t.requester.unit Nothing) after) =
           l.received_so ∙ gathered_is k t after put_so
           ∙ joins_whole unit route m pos (leading k (side t.requester after)) after k (front_of m s₀.store) good.right n in
-          leads s (packet unit route m k) (Response (length m)) (side (requester t.requester.eid t.requester.unit Nothing) after) so
+          leads s (packet unit route m k) (Ok (Response (length m))) (side (requester t.requester.eid t.requester.unit Nothing) after) so
           (record { eid_same = ap (λ (e : ℕ × ℕ). e.0) l.ours; unit_same = ap (λ (e : ℕ × ℕ). e.1) l.ours; nothing_awaited = refl; store_is = refl })
 
   arrives : awaits source tag s₀.requester.awaiting ≡ true → Fed at_requester s₀ (cut unit route m) (wholly unit m) (Came s₀ m)
@@ -207,8 +208,8 @@ module _ (s₀ : Side) (source tag : ℕ) (m : List ℕ) (valid : Valid s₀.req
 -- what is awaited has a tag that a packet can carry
 pub awaited_small : (unit source tag : ℕ) (a : Awaiting) → AwaitingFacts unit a → is_awaited source tag a ≡ true → (tag ≤ 7) × (awaits source tag a ≡ true)
 awaited_small unit source tag Nothing f e = false_true e
-awaited_small unit source tag (Awaited k) f e = (omega (arith, f, eqb-true k.tag tag (and_both (eqb k.source source) (eqb k.tag tag) e).1), e)
-awaited_small unit source tag (Gathering a) f e = (omega (arith, f.0, eqb-true a.tag tag (and_both (eqb a.source source) (eqb a.tag tag) e).1), e)
+awaited_small unit source tag (Awaited k) f e = (omega (arith, f, eqb-true k.tag tag (and_parts (eqb k.source source) (eqb k.tag tag) e).1), e)
+awaited_small unit source tag (Gathering a) f e = (omega (arith, f.0, eqb-true a.tag tag (and_parts (eqb a.source source) (eqb a.tag tag) e).1), e)
 
 pub response_gathered : ResponseGathered
 response_gathered s source tag m v size awaited good =

@@ -10,7 +10,7 @@ use lib.Dec.{eqb, ltb}
 use lib.ListN.{length, take, drop}
 use lib.Seq.{take_at, drop_at}
 use borrow.Author.Tests.{eqb-true, ltb-true, ltb-false, lt-ltb, le-ltb}
-use Rattle.std.specs.Prelude.{if◌then◌else◌}
+use Rattle.std.specs.Prelude.{Err, if◌then◌else◌}
 use Rattle.lent.proofs.Choice.{if_ind, false_true, row}
 use Rattle.mctp.specs.Cut.{packet, cut, end_to_end, pieces}
 use Rattle.mctp.specs.declared.Route.{Route}
@@ -25,7 +25,6 @@ use Rattle.controller.specs.Await.{wrong_tag, was_set_up, now_awaits}
 use Rattle.controller.specs.Send.{Sent, sent_to, written, wrong_size, cut_to, control_request, primitive_to}
 use Rattle.controller.specs.Grounds.{SetUp, SetupSo, Awaits, AwaitsSo, size_of, cut_numbers, Wrote, CutSo, primitive_numbers, primitive_packet, PrimitiveSo}
 use Rattle.controller.specs.Types.{Primitive}
-use Rattle.controller.specs.declared.SendAnswer.TheVariants.{Refused}
 
 -- ---- setup and awaiting
 
@@ -55,7 +54,7 @@ awaits_so r source tag =
 abbrev Writes : ℕ → List ℕ → Sent → ℕ × List ℕ → Type 0
 Writes size buffer x n = Wrote n size buffer x
 
-untouched : (n size : ℕ) (buffer : List ℕ) → Wrote (n, []) size buffer (sent_to (Refused n) buffer)
+untouched : (n size : ℕ) (buffer : List ℕ) → Wrote (n, []) size buffer (sent_to (Err n) buffer)
 untouched n size buffer = record { number_is = refl; behind = refl; unwritten = λ _. refl }
 
 -- 36, or the bytes at the front

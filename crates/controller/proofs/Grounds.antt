@@ -8,17 +8,19 @@ use native.Mathlib.Omega.{arith}
 use lib.Dec.{eqb, ltb}
 use lib.ListN.{length, take, length-append, length-take}
 use borrow.Author.Tests.{eqb-true, not-true, not-false}
-use Rattle.std.specs.Prelude.{if◌then◌else◌}
+use Rattle.std.specs.Prelude.{Result, Ok, Err, if◌then◌else◌}
 use Rattle.lent.specs.Bytes.{byte_at, is_set, put}
-use Rattle.lent.proofs.Choice.{or_right, false_true, and_both, row}
+use Rattle.std.proofs.lemmas.Bool.{and_parts, or_parts}
+use Rattle.lent.proofs.Choice.{false_true, row}
+use Rattle.mctp.specs.declared.Header.{Header}
 use Rattle.mctp.specs.Header.{read_header, same, fields, payload_of}
 use Rattle.mctp.specs.Gather.{is_cut, join_refusal}
-use Rattle.mctp.specs.declared.Read.{Read}
+use Rattle.mctp.proofs.Laws.{not_same_false}
 use Rattle.nvme_mi.specs.Check.{check_right}
 use Rattle.nvme_mi.specs.Message.{message_type, control, message_header}
 use Rattle.opening.specs.Opening.{opened, joined_in}
 use Rattle.opening.specs.declared.First.{First}
-use Rattle.opening.specs.declared.First.TheVariants.{Refused as Unopened, Control, Command}
+use Rattle.opening.specs.declared.First.TheVariants.{Control, Command}
 use Rattle.opening.specs.declared.Joined.{Joined}
 use Rattle.machine.specs.History.{has_som, source_of, message_tag_of}
 use Rattle.machine.specs.Grounds.{has_eom, sequence_of}
@@ -42,10 +44,10 @@ awaited_is source tag (Gathering a) = refl
 pub key_known : (source tag : ℕ) (a : Awaiting) → is_awaited source tag a ≡ true → key_of a ≡ source ∷ tag ∷ []
 key_known source tag Nothing e = false_true e
 key_known source tag (Awaited k) e =
-    let b = and_both (eqb k.source source) (eqb k.tag tag) e in
+    let b = and_parts (eqb k.source source) (eqb k.tag tag) e in
     rw (eqb-true k.source source b.0, eqb-true k.tag tag b.1) refl
 key_known source tag (Gathering a) e =
-    let b = and_both (eqb a.source source) (eqb a.tag tag) e in
+    let b = and_parts (eqb a.source source) (eqb a.tag tag) e in
     rw (eqb-true a.source source b.0, eqb-true a.tag tag b.1) refl
 
 -- the end of an assembly
@@ -193,7 +195,7 @@ module _ (s : Side) (p : List ℕ) where
   abbrev now : Side
   now = restarted (source_of p) (message_tag_of p) s
 
-  abbrev opens : First → ℕ × List ℕ → Type 0
+  abbrev opens : Result First ℕ → ℕ × List ℕ → Type 0
   opens f n = Left s p n (first_by now (fields p) m f)
 
   -- 20, or the message is gathered
@@ -205,7 +207,7 @@ module _ (s : Side) (p : List ℕ) where
   not_same false = refl
 
   twelve : (not (has_eom p) || not (eqb (length m) 12)) ≡ false → length m ≡ 12
-  twelve e = eqb-true (length m) 12 (not-false (eqb (length m) 12) (or_right (not (has_eom p)) (not (eqb (length m) 12)) e))
+  twelve e = eqb-true (length m) 12 (not-false (eqb (length m) 12) (or_parts (not (has_eom p)) (not (eqb (length m) 12)) e).1)
 
   first_so : has_som p ≡ true → Left s p (first_numbers s p m) (first now (fields p) m)
   unfolding first opened
@@ -235,10 +237,10 @@ module _ (s : Side) (p : List ℕ) where
           else if c then (2, 12 ∷ [])
           else taken_in p m)
           (first_by now (fields p) m
-          (if not c then Command
-          else if not (fields p).eom || not (eqb (length m) 12) then Unopened 18
-          else if not (check_right m) then Unopened 19
-          else Control))
+          (if not c then Ok Command
+          else if not (fields p).eom || not (eqb (length m) 12) then Err 18
+          else if not (check_right m) then Err 19
+          else Ok Control))
       by_kind false command =
           stranger (λ awaited. gathered_so now restart.same_but 0 (place_first p before som) (omega arith) awaited (rw (som, command) refl))
       by_kind true control =
@@ -313,12 +315,8 @@ module _ (s : Side) (p : List ℕ) where
 
   -- ---- the whole
 
-  abbrev reads : Read → ℕ × List ℕ → Type 0
+  abbrev reads : Result Header ℕ → ℕ × List ℕ → Type 0
   reads r n = Left s p n (received_by s m r)
-
-  not_turned : (b : Bool) → not (same b false) ≡ b
-  not_turned true = refl
-  not_turned false = refl
 
 pub received_so : ReceivedSo
 unfolding received read_header
@@ -333,7 +331,7 @@ received_so s p v =
     (λ _.
     row (reads s p) (not (eqb (byte_at p 1) s.requester.eid)) (not (eqb (byte_at p 1) s.requester.eid)) refl (λ _. unchanged s p 13 refl refl refl refl)
     (λ _.
-    row (reads s p) (not (same (is_set (byte_at p 3) 3) outward)) (is_set (byte_at p 3) 3) (not_turned s p (is_set (byte_at p 3) 3)) (λ _. unchanged s p 14 refl refl refl refl)
+    row (reads s p) (not (same (is_set (byte_at p 3) 3) outward)) (is_set (byte_at p 3) 3) (not_same_false (is_set (byte_at p 3) 3)) (λ _. unchanged s p 14 refl refl refl refl)
     (λ _.
     row (takes s p) (has_som p) (has_som p) refl (λ som. first_so s p som)
     (λ som. later_so s p v (eqb-true (length s.store) 4224 (not-false (eqb (length s.store) 4224) size)) som)))))))

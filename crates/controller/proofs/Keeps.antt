@@ -9,14 +9,13 @@ use native.Mathlib.Omega.{arith}
 use lib.Dec.{eqb, ltb}
 use lib.ListN.{length, take, length-drop}
 use borrow.Author.Tests.{ltb-false, eqb-true}
-use Rattle.std.specs.Prelude.{if◌then◌else◌}
+use Rattle.std.specs.Prelude.{Result, if◌then◌else◌}
 use Rattle.lent.specs.Bytes.{byte_at, is_set, put}
 use Rattle.lent.proofs.Choice.{if_ind, differ}
 use Rattle.mctp.specs.Setup.{first_eid, least_unit, setup_refusal}
 use Rattle.mctp.specs.Header.{read_header, payload_of, fields, same}
 use Rattle.mctp.specs.Gather.{is_cut, join_refusal}
 use Rattle.mctp.specs.declared.Header.{Header}
-use Rattle.mctp.specs.declared.Read.{Read}
 use Rattle.mctp.proofs.Laws.{SetUpSo, set_up_so, first_so}
 use Rattle.nvme_mi.specs.Check.{check_right}
 use Rattle.nvme_mi.specs.Message.{message_type, control, control_size, smallest, message_header}
@@ -29,10 +28,10 @@ use Rattle.machine.specs.Receive.{is_from, assembly}
 use Rattle.machine.specs.Wire.{store_size, outward}
 use Rattle.machine.specs.declared.Assembly.{Assembly}
 use Rattle.machine.proofs.Receiving.{full_unit}
-use Rattle.controller.specs.State.{awaits, unassembled, requester, Side, side, Outcome, AwaitingFacts, Valid}
+use Rattle.controller.specs.State.{Done, awaits, unassembled, requester, Side, side, Outcome, AwaitingFacts, Valid}
 use Rattle.controller.specs.Await.{wrong_tag, was_set_up, now_awaits}
 use Rattle.controller.specs.Receive.{dropped, landed, gathered, restarted, first_by, first, later_at, later_by, later, received_by, received}
-use Rattle.controller.specs.Types.{Awaiting, Nothing, Awaited, Gathering, Requester, Done}
+use Rattle.controller.specs.Types.{Awaiting, Nothing, Awaited, Gathering, Requester}
 
 -- an end's name and its unit: no call changes them
 abbrev pub end_of : Requester → ℕ × ℕ
@@ -130,7 +129,7 @@ first_valid s h m v tag small =
     if_ind P (not (check_right m)) (λ _. v)
     (λ _. if_ind Kept (not (awaits h.source h.tag s.requester.awaiting)) (λ _. v) (λ _. with_awaiting_lem Nothing v tt))))))))
   where
-    P : First → Type 0
+    P : Result First ℕ → Type 0
     P f = Kept (first_by s h m f)
 
 later_valid : (s : Side) (h : Header) (m : List ℕ) → Valid s.requester → h.tag ≤ 7 → Kept (later s h m)
@@ -173,5 +172,5 @@ received_valid s p v =
     if_ind Kept (has_som p) (λ _. first_valid (restarted (fields p).source (fields p).tag s) (fields p) (payload_of p) (restarted_valid (fields p).source (fields p).tag s v) tag (restarted_unit (fields p).source (fields p).tag s payload))
     (λ _. later_valid s (fields p) (payload_of p) v tag)))))))
   where
-    P : Read → Type 0
+    P : Result Header ℕ → Type 0
     P r = Kept (received_by s (payload_of p) r)

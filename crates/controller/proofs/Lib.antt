@@ -2,5 +2,4 @@ pub mod Keeps
 pub mod Grounds
 pub mod Calls
 pub mod Arrival
-pub mod Fits
 pub mod Lists

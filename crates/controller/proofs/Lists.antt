@@ -12,7 +12,8 @@ use lib.Seq.{get_or-drop}
 use borrow.Author.Tests.{ltb-false, eqb-true, not-true, not-false}
 use Rattle.std.specs.Prelude.{if◌then◌else◌}
 use Rattle.lent.specs.Bytes.{byte_at, is_set, put}
-use Rattle.lent.proofs.Choice.{if_ind, or_left, or_right, false_true}
+use Rattle.std.proofs.lemmas.Bool.{or_parts}
+use Rattle.lent.proofs.Choice.{if_ind, false_true}
 use Rattle.lent.proofs.Stores.{take_put}
 use Rattle.nvme_mi.specs.Check.{check_right}
 use Rattle.machine.specs.History.{has_som, source_of, message_tag_of, bytes_from4}
@@ -20,12 +21,12 @@ use Rattle.machine.specs.Grounds.{has_eom, sequence_of}
 use Rattle.machine.specs.Refusals.{is_one_of}
 use Rattle.machine.specs.declared.Assembly.{Assembly}
 use Rattle.machine.proofs.Places.{take_joined}
-use Rattle.controller.specs.State.{Side, side, AwaitingFacts, Valid}
+use Rattle.controller.specs.State.{Done, Side, side, AwaitingFacts, Valid}
 use Rattle.controller.specs.Await.{was_set_up, now_awaits}
 use Rattle.controller.specs.Receive.{received}
 use Rattle.controller.specs.Grounds.{size_of, key_of, assembly_of, is_awaited, is_control, taken_in, first_numbers, later_numbers, receive_numbers, is_whole, place_in, ends_assembly, is_stored, Left, Awaits}
 use Rattle.controller.specs.Lists.{Call, await, cut, primitive, receive, says, after, History, with_packet, key_after, packets_after, next, run, start, joined, key_in, Behind, OwnResponse, ResponseOwn, OwnReply, ReplyOwn, numbers, AnswersNamed, IdentityKept}
-use Rattle.controller.specs.Types.{Awaiting, Nothing, Awaited, Gathering, Done}
+use Rattle.controller.specs.Types.{Awaiting, Nothing, Awaited, Gathering}
 use Rattle.controller.proofs.Keeps.{end_of, gathered_most, setup_valid, awaits_valid, received_valid}
 use Rattle.controller.proofs.Calls.{setup_so, awaits_so, cut_so, primitive_so}
 use Rattle.controller.proofs.Grounds.{key_known, place_first, received_so}
@@ -144,8 +145,8 @@ module _ (s : Side) (p : List ℕ) where
             (record {
               som = som;
               awaited = not-false (is_awaited (source_of p) (message_tag_of p) before) awaited;
-              eom = not-false (has_eom p) (or_left (not (has_eom p)) (not (eqb (length m) 12)) one);
-              twelve = eqb-true (length m) 12 (not-false (eqb (length m) 12) (or_right (not (has_eom p)) (not (eqb (length m) 12)) one));
+              eom = not-false (has_eom p) (or_parts (not (has_eom p)) (not (eqb (length m) 12)) one).0;
+              twelve = eqb-true (length m) 12 (not-false (eqb (length m) 12) (or_parts (not (has_eom p)) (not (eqb (length m) 12)) one).1);
               typed = typed;
               way = way;
               kind = kind;

@@ -4,8 +4,8 @@ use Rattle.std.specs.Prelude.{ℕ, Bool, eqb, ltb, if◌then◌else◌}
 use Rattle.mctp.specs.Setup.{first_eid, least_unit, setup_refusal}
 use Rattle.machine.specs.Answers.{done}
 use Rattle.controller.specs.Answers.{out_of_range}
-use Rattle.controller.specs.State.{key, requester, ended}
-use Rattle.controller.specs.Types.{Nothing, Awaited, Requester, Done}
+use Rattle.controller.specs.State.{Done, key, requester, ended}
+use Rattle.controller.specs.Types.{Nothing, Awaited, Requester}
 
 -- "Its setup is as 01's", and takes a unit: 38 and 39 are `mctp`'s, and beside either stands the state for EID 8 and the unit 64. Nothing is awaited.
 unfoldable pub was_set_up : ℕ → ℕ → Done

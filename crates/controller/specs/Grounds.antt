@@ -9,11 +9,11 @@ use Rattle.mctp.specs.Cut.{cut, pieces}
 use Rattle.nvme_mi.specs.Check.{check_right, with_check}
 use Rattle.machine.specs.History.{has_som, source_of, message_tag_of, bytes_from4, over_unit}
 use Rattle.machine.specs.Grounds.{has_eom, sequence_of}
-use Rattle.controller.specs.State.{Side, Outcome, Valid}
+use Rattle.controller.specs.State.{Done, Side, Outcome, Valid}
 use Rattle.controller.specs.Await.{was_set_up, now_awaits}
 use Rattle.controller.specs.Send.{Sent, send_says, cut_to, primitive_to}
 use Rattle.controller.specs.Receive.{receive_says, received}
-use Rattle.controller.specs.Types.{Awaiting, Nothing, Awaited, Gathering, Requester, Done, Primitive}
+use Rattle.controller.specs.Types.{Awaiting, Nothing, Awaited, Gathering, Requester, Primitive}
 
 -- ---- what is seen of the state
 

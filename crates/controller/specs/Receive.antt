@@ -2,16 +2,14 @@
 -- awaited", "into one lent store of 4,224 bytes (else 40), control replies too, without flags". What the tables say of bytes alone is `mctp`'s and
 -- `opening`'s, as at the endpoint.
 -- Assumes nothing.
-use Rattle.std.specs.Prelude.{ℕ, ◌+◌, true, not, List, [], ◌∷◌, eqb, length, take, if◌then◌else◌}
+use Rattle.std.specs.Prelude.{ℕ, ◌+◌, true, not, List, [], ◌∷◌, Result, Ok, Err, eqb, length, take, if◌then◌else◌}
 use Rattle.lent.specs.Bytes.{put}
 use Rattle.mctp.specs.Header.{read_header, payload_of}
 use Rattle.mctp.specs.Gather.{join_refusal, no_assembly}
 use Rattle.mctp.specs.declared.Header.{Header}
-use Rattle.mctp.specs.declared.Read.{Read}
-use Rattle.mctp.specs.declared.Read.TheVariants.{Refused as Unread, Packet}
 use Rattle.opening.specs.Opening.{opened, joined_in, check_wrong}
 use Rattle.opening.specs.declared.First.{First}
-use Rattle.opening.specs.declared.First.TheVariants.{Refused as Unopened, Control as ControlMessage, Command as OtherMessage}
+use Rattle.opening.specs.declared.First.TheVariants.{Control as ControlMessage, Command as OtherMessage}
 use Rattle.opening.specs.declared.Joined.{Joined}
 use Rattle.opening.specs.declared.Joined.TheVariants.{More as Unfinished, Wrong, Whole}
 use Rattle.machine.specs.Answers.{more_to_come, command_complete, control_done, wrong_stores_number}
@@ -20,19 +18,19 @@ use Rattle.machine.specs.Wire.{store_size, outward}
 use Rattle.machine.specs.declared.Assembly.{Assembly}
 use Rattle.controller.specs.Answers.{not_awaited}
 use Rattle.controller.specs.State.{awaits, unassembled, Side, side, with_awaiting, Outcome, outcome}
-use Rattle.controller.specs.Types.{Awaiting, Nothing, Awaited, Gathering, ReceiveAnswer}
-use Rattle.controller.specs.declared.ReceiveAnswer.TheVariants.{Refused, More, Response, Control}
+use Rattle.controller.specs.Types.{Awaiting, Nothing, Awaited, Gathering, Gathered}
+use Rattle.controller.specs.declared.Gathered.TheVariants.{More, Response, Control}
 
 -- the number of what is answered, and the value beside it: "only answers 1 and 2 give the length"
-abbrev pub receive_says : ReceiveAnswer → ℕ × List ℕ
-receive_says (Refused n) = (n, [])
-receive_says More = (more_to_come, [])
-receive_says (Response n) = (command_complete, n ∷ [])
-receive_says (Control n) = (control_done, n ∷ [])
+abbrev pub receive_says : Result Gathered ℕ → ℕ × List ℕ
+receive_says (Err n) = (n, [])
+receive_says (Ok More) = (more_to_come, [])
+receive_says (Ok (Response n)) = (command_complete, n ∷ [])
+receive_says (Ok (Control n)) = (control_done, n ∷ [])
 
 -- a refusal, and what it leaves
 abbrev pub refused : Side → ℕ → Outcome
-refused s n = outcome (Refused n) s
+refused s n = outcome (Err n) s
 
 -- the assembly ends, and the awaiting stays
 abbrev pub dropped : Side → Side
@@ -42,9 +40,9 @@ dropped s = with_awaiting s (unassembled s.requester.awaiting)
 
 -- "only answers 1 and 2 [..] end the awaiting"
 abbrev pub landed : Side → Assembly → Joined → Outcome
-landed s a Unfinished = outcome More (with_awaiting s (Gathering a))
+landed s a Unfinished = outcome (Ok More) (with_awaiting s (Gathering a))
 landed s a Wrong = refused (dropped s) check_wrong
-landed s a Whole = outcome (Response a.length) (with_awaiting s Nothing)
+landed s a Whole = outcome (Ok (Response a.length)) (with_awaiting s Nothing)
 
 unfoldable pub gathered : Side → ℕ → Header → List ℕ → Outcome
 unfolding joined_in
@@ -60,16 +58,16 @@ restarted source tag s = if awaits source tag s.requester.awaiting then dropped 
 
 -- a control reply lies at the store's front
 abbrev pub replied : Side → List ℕ → Outcome
-replied s m = outcome (Control (length m)) (with_awaiting (side s.requester (put s.store 0 m)) Nothing)
+replied s m = outcome (Ok (Control (length m))) (with_awaiting (side s.requester (put s.store 0 m)) Nothing)
 
 -- 20 is the last test, for control replies too
 abbrev pub if_awaited : Side → Header → Outcome → Outcome
 if_awaited s h o = if not (awaits h.source h.tag s.requester.awaiting) then refused s not_awaited else o
 
-abbrev pub first_by : Side → Header → List ℕ → First → Outcome
-first_by s h m (Unopened n) = refused s n
-first_by s h m ControlMessage = if_awaited s h (replied s m)
-first_by s h m OtherMessage = if_awaited s h (gathered s 0 h m)
+abbrev pub first_by : Side → Header → List ℕ → Result First ℕ → Outcome
+first_by s h m (Err n) = refused s n
+first_by s h m (Ok ControlMessage) = if_awaited s h (replied s m)
+first_by s h m (Ok OtherMessage) = if_awaited s h (gathered s 0 h m)
 
 unfoldable pub first : Side → Header → List ℕ → Outcome
 unfolding gathered opened
@@ -96,9 +94,9 @@ later s h payload = later_by s h payload s.requester.awaiting
 
 -- ---- the whole
 
-abbrev pub received_by : Side → List ℕ → Read → Outcome
-received_by s payload (Unread n) = refused s n
-received_by s payload (Packet h) =
+abbrev pub received_by : Side → List ℕ → Result Header ℕ → Outcome
+received_by s payload (Err n) = refused s n
+received_by s payload (Ok h) =
     if h.som then first (restarted h.source h.tag s) h payload
     else later s h payload
 

@@ -1,9 +1,9 @@
 -- The requester's state, "It awaits one source and tag at a time (none after setup)", and its lent store.
 -- Assumes nothing.
-use Rattle.std.specs.Prelude.{ℕ, ◌%◌, ◌≤◌, ◌≡◌, Bool, false, ◌&&◌, List, eqb}
+use Rattle.std.specs.Prelude.{ℕ, ◌%◌, ◌≤◌, ◌≡◌, Bool, false, ◌&&◌, List, Result, eqb}
 use Rattle.mctp.specs.Setup.{first_eid, last_eid, least_unit, most_unit}
 use Rattle.machine.specs.Receive.{is_from}
-use Rattle.controller.specs.Types.{Key, Awaiting, Nothing, Awaited, Gathering, Requester, Done, ReceiveAnswer}
+use Rattle.controller.specs.Types.{Key, Awaiting, Nothing, Awaited, Gathering, Requester, Gathered}
 
 abbrev pub key : ℕ → ℕ → Key
 key source tag = record { source = source; tag = tag }
@@ -12,6 +12,10 @@ abbrev pub requester : ℕ → ℕ → Awaiting → Requester
 requester eid unit a = record { eid = eid; unit = unit; awaiting = a }
 
 -- what a call that is lent no store answers, and the state that it leaves
+pub record Done : Type 0 where
+  pub answer : ℕ
+  pub requester : Requester
+
 abbrev pub ended : ℕ → Requester → Done
 ended n r = record { answer = n; requester = r }
 
@@ -41,12 +45,12 @@ side r s = record { requester = r; store = s }
 abbrev pub with_awaiting : Side → Awaiting → Side
 with_awaiting s a = side (requester s.requester.eid s.requester.unit a) s.store
 
--- what receiving a packet answers, and what it leaves
+-- what receiving a packet answers, refused by number or what it did, and what it leaves
 pub record Outcome : Type 0 where
-  pub answer : ReceiveAnswer
+  pub answer : Result Gathered ℕ
   pub side : Side
 
-abbrev pub outcome : ReceiveAnswer → Side → Outcome
+abbrev pub outcome : Result Gathered ℕ → Side → Outcome
 outcome n s = record { answer = n; side = s }
 
 -- ---- the invariant: what holds of every state that comes from a setup through the calls

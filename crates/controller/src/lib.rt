@@ -1,9 +1,11 @@
 // The controller's end: a requester's state, and what its calls answer. What every call answers and leaves is defined in specs/.
 #![tactic(auto)]
 
-pub mod answers;
+mod valid;
 
 use machine::Assembly;
+use refusals::Refusal;
+pub use valid::ValidRequester;
 
 // The greatest message tag.
 pub const LAST_TAG: u8 = 7;
@@ -15,7 +17,7 @@ pub struct Key {
     pub tag: u8,
 }
 
-// What is awaited: nothing, a response of which no packet is gathered, or the rest of one.
+// What is awaited: nothing, a response of which no packet is gathered, or the rest of one. With three ways it is an enum of its own and no `Option`.
 #[derive(Clone, Copy)]
 pub enum Awaiting {
     Nothing,
@@ -31,14 +33,14 @@ pub struct Requester {
     pub awaiting: Awaiting,
 }
 
-// What setup and awaiting answer by number, and the state that they leave.
+// What setup answers, and the state beside it: a refusal has one too, that for EID 8 and the unit 64 (`was_set_up`).
 #[derive(Clone, Copy)]
-pub struct Done {
-    pub answer: u8,
-    pub requester: Requester,
+pub struct SetUp {
+    pub answer: Result<(), Refusal>,
+    pub requester: ValidRequester,
 }
 
-// A control primitive: its slot, opcode, TAG and CPSP.
+// A control primitive: its slot, opcode, TAG and CPSP. The opcode is a number and no enum, since a primitive of any opcode is built (`primitive_to`).
 #[derive(Clone, Copy)]
 pub struct Primitive {
     pub slot: usize,
@@ -47,24 +49,10 @@ pub struct Primitive {
     pub cpsp: u16,
 }
 
-// Cutting a command, and building a control primitive: refused by number, or so many bytes at the buffer's front.
+// What a packet that is not refused did: more are to come, or a message of this length is at the store's front, a response or a control reply.
 #[derive(Clone, Copy)]
-pub enum SendAnswer {
-    Refused(u8),
-    Written(usize),
-}
-
-// Receiving a packet: refused by number, more to come, or a message of this length at the store's front: a response, or a control reply.
-#[derive(Clone, Copy)]
-pub enum ReceiveAnswer {
-    Refused(u8),
+pub enum Gathered {
     More,
     Response(usize),
     Control(usize),
-}
-
-#[derive(Clone, Copy)]
-pub struct ReceiveDone {
-    pub answer: ReceiveAnswer,
-    pub requester: Requester,
 }

@@ -1,4 +1,3 @@
-pub mod Xor
 pub mod Entries
 pub mod Same
 pub mod LookUp

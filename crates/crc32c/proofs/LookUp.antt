@@ -6,10 +6,9 @@ use Prim.Native.Nat.{ℕ, zero, suc, ◌*◌, ◌/◌, ◌%◌, ◌^◌, ◌<◌
 use native.Mathlib.Nat.{mod-lt, mul-one}
 use lib.Pow.{pow_pos, split}
 use lib.ListN.{get_or}
-use lib.Bits.{bit_xor, xor_shr, xor_mod, xor_shifted, shifted_half, shifted_even}
+use lib.Bits.{bit_xor, xor_assoc, xor_shr, xor_mod, xor_shifted, shifted_half, shifted_even}
 use Rattle.crc32c.specs.Crc32c.{reflect, steps}
 use Rattle.crc32c.specs.Reflected.{reversed, bit_step, bit_steps, entry, Table}
-use Rattle.crc32c.proofs.Xor.{xor_assoc}
 use Rattle.crc32c.proofs.Entries.{entries, at_each}
 use Rattle.crc32c.proofs.Same.{byte, reflect_steps}
 

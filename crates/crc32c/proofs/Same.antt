@@ -3,7 +3,7 @@
 use mathlib.Core.Path.{◌≡◌, refl, sym, ap, ap₂, ◌∙◌}
 use mathlib.Core.List.{List, [], ◌∷◌}
 use Prim.Native.Nat.{ℕ, zero, suc, ◌+◌, ◌*◌, ◌/◌, ◌%◌, ◌^◌, ◌<◌}
-use native.Mathlib.Nat.{mul_assoc, zero-add, pow-suc, zero-lt-suc, mul-div_cancel, mul-mod_left}
+use native.Mathlib.Nat.{mod-lt, le_of_suc-le-suc, not-suc-le-zero, mul_assoc, zero-add, pow-suc, zero-lt-suc, mul-div_cancel, mul-mod_left}
 use native.Mathlib.Numerals.{add-one, one-add}
 use native.Mathlib.Omega.{arith}
 use lib.Arith.{digits_lt, digits_div, digits_mod}
@@ -13,8 +13,17 @@ use lib.Bits.{bit_xor, xor_shr, xor_mod, xor_block, xor_lt}
 use lib.Dec.{lit<}
 use Rattle.crc32c.specs.Crc32c.{reflect, polynomial, start, step, steps, register, crc32c}
 use Rattle.crc32c.specs.Reflected.{reversed, bit_step, bit_steps, byte_step, through}
-use Rattle.crc32c.proofs.Xor.{low, of_bits}
 use Rattle.crc32c.proofs.Entries.{entries, at_each}
+
+-- a bit is 0 or 1
+low : (a : ℕ) → a % 2 < 2
+low a = mod-lt a (zero-lt-suc 1)
+
+-- what holds of 0 and of 1 holds of every bit
+of_bits : (P : ℕ → Type 0) → P 0 → P 1 → (t : ℕ) → t < 2 → P t
+of_bits P p q zero h = p
+of_bits P p q (suc zero) h = q
+of_bits P p q (suc (suc t)) h = absurd (not-suc-le-zero (le_of_suc-le-suc (le_of_suc-le-suc h)))
 
 reflect_lt : (n x : ℕ) → reflect n x < 2 ^ n
 unfolding reflect

@@ -18,7 +18,7 @@ fn byte_step(table: &[u32; 256], x: u32, b: u8) -> u32
     requires { Table table.now }
     ensures { result ≡ byte_step x b }
 {
-    let y = x ^ (b as u32);
+    let y = x ^ u32::from(b);
     (y >> 8) ^ table[(y % 256) as usize]
 }
 
@@ -28,10 +28,8 @@ fn register_after(table: &[u32; 256], bytes: &[u8]) -> u32
     ensures { result ≡ through start bytes.now }
 {
     let mut x = START;
-    let mut i = 0;
-    while i < bytes.len() {
-        x = byte_step(table, x, bytes[i]);
-        i += 1;
+    for b in bytes {
+        x = byte_step(table, x, *b);
     }
     x
 }

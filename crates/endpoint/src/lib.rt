@@ -1,5 +1,5 @@
-// The endpoint's nine calls. Each is proved equal to its definition in `machine`, and its only premise is the invariant of the state, which
-// setup gives and every call keeps. A call gets the state by value and hands back the next one; the stores and the buffer are lent.
+// The endpoint's nine calls. Each is proved equal to its definition in `machine`. They have no premise: the invariant of the state is in its type, which
+// setup gives. A call is lent the state, the stores and the buffer.
 #![tactic(auto)]
 
 pub use finish::{complete, timeout};

@@ -8,7 +8,7 @@ use Rattle.mctp.specs.Gather.{join_refusal}
 use Rattle.nvme_mi.specs.Message.{command_fault, control_fault}
 use Rattle.nvme_mi.specs.Check.{check_right, with_check}
 use Rattle.nvme_mi.specs.Response.{response}
-use Rattle.machine.specs.State.{ticket}
+use Rattle.machine.specs.State.{ticket, reply_message}
 use Rattle.machine.specs.Calls.{Call, receive, take!, read, complete, declare, step, begin}
 use Rattle.machine.specs.History.{History, phase_at, paused_at, is_packet_of, next, run, start, cuts}
 use Rattle.machine.specs.Demands.{fate, is_process, is_answered}
@@ -61,7 +61,7 @@ says c h = answer (step c h.world).event
 
 -- what an Abort of slot 0 reports: the low byte of CPSR in the reply that waits
 abbrev told : History → List ℕ
-told h = get_or (next abort h).world.endpoint.reply 6 0 ∷ []
+told h = get_or (reply_message (next abort h).world.endpoint.reply) 6 0 ∷ []
 
 abbrev yes : Bool → List ℕ
 yes true = 1 ∷ []

@@ -1,7 +1,7 @@
 -- The premises of `held_is`, `replay_sends`, `replay_arrives`, `replay_same` and `replay_returns` can be met: the exchange of `Exchange` goes on. The
 -- response was sent; the requester lost it and asks for it again, by computation.
 -- Assumes nothing.
-use Rattle.std.specs.Prelude.{ℕ, ◌≡◌, refl, List, [], ◌∷◌, ◌++◌, take, replicate}
+use Rattle.std.specs.Prelude.{ℕ, ◌≡◌, Option, None, Some, refl, List, [], ◌∷◌, ◌++◌, take, replicate}
 use Rattle.crc32c.specs.Crc32c.{crc32c, reflect, register, steps, step as step_crc}
 use Rattle.mctp.specs.Header.{read_header}
 use Rattle.mctp.specs.Cut.{packet as cut_packet}
@@ -9,23 +9,23 @@ use Rattle.mctp.specs.Gather.{join_refusal}
 use Rattle.nvme_mi.specs.Message.{command_fault, control_fault}
 use Rattle.nvme_mi.specs.Check.{check_right, with_check}
 use Rattle.nvme_mi.specs.Response.{response}
+use Rattle.machine.specs.State.{reply_message}
 use Rattle.machine.specs.Calls.{receive, step}
 use Rattle.machine.specs.History.{History, next, run, start}
 use Rattle.machine.specs.Demands.{fate}
 use Rattle.machine.specs.Replays.{held_at, is_replay}
-use Rattle.machine.specs.declared.Held.{Held}
-use Rattle.machine.specs.declared.Held.TheVariants.{NoResponse, Last}
 use Rattle.controller.specs.Send.{primitive_to}
 use Rattle.round_trip.specs.Response.{sent_until, is_unsent}
 use Rattle.round_trip.specs.Replay.{replay_of}
 use Rattle.examples.specs.Examples.{answer}
 use Rattle.examples.specs.Runs.{seen}
 use Rattle.examples.specs.Exchange.{controller, yes, first_back, second_back, answered, polls}
+use Rattle.machine.specs.declared.Response.{Response}
 
 -- what is held: to whom, under which tag, its length
-abbrev shown_held : Held → List ℕ
-shown_held NoResponse = []
-shown_held (Last r) = r.requester ∷ r.tag ∷ r.length ∷ []
+abbrev shown_held : Option Response → List ℕ
+shown_held None = []
+shown_held (Some r) = r.requester ∷ r.tag ∷ r.length ∷ []
 
 -- a Replay of slot 1 under tag 1, built by the requester
 abbrev replay_1 : List ℕ
@@ -57,7 +57,7 @@ shown h k =
     ∷ yes (is_unsent 1 k)
     ∷ shown_held (held_at k.world 1)
     -- its reply, with CPSR 1
-    ∷ k.world.endpoint.reply
+    ∷ reply_message k.world.endpoint.reply
     -- replay_arrives: the reply goes first, then both packets; six polls were counted in all, and 69 bytes joined
     ∷ seen 1 (fate 1 polls k)
     -- replay_same, replay_returns: the same two packets as the first time, and the slot holds the response again

@@ -1,6 +1,7 @@
 -- The premises of the statements about the control reply can be met: a closed run, by computation.
 -- Assumes nothing.
 use Rattle.std.specs.Prelude.{◌≡◌, refl, true, [], ◌∷◌, replicate}
+use Rattle.std.specs.Option.{is_some}
 use Rattle.crc32c.specs.Crc32c.{crc32c, reflect, register, steps, step as step_crc}
 use Rattle.mctp.specs.Header.{read_header}
 use Rattle.mctp.specs.Cut.{packet as cut_packet}
@@ -17,7 +18,7 @@ use Rattle.examples.specs.Examples.{mi_20, get_state, taking, completing, pollin
 pub before_reply : History
 before_reply = run (mi_20 ∷ taking ∷ completing 4 ∷ get_state ∷ polling ∷ get_state ∷ []) (start 8 64 (replicate 4224 0) (replicate 4224 0))
 
-pub reply_is_waiting : before_reply.world.endpoint.reply_waits ≡ true
+pub reply_is_waiting : is_some before_reply.world.endpoint.reply ≡ true
 unfolding before_reply run start read_header join_refusal cut_packet command_fault control_fault response with_check check_right crc32c reflect register steps step_crc
 reply_is_waiting = refl
 

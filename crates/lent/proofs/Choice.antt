@@ -3,7 +3,7 @@
 -- Assumes nothing.
 use Prim.Native.Nat.{ℕ}
 use mathlib.Core.Path.{◌≡◌, refl}
-use mathlib.Core.Bool.{Bool, true, false, cond, not, ◌&&◌, ◌||◌}
+use mathlib.Core.Bool.{Bool, true, false, cond}
 use native.Mathlib.Omega.{arith}
 
 pub if_ind {ℓ κ} : {A : Type ℓ} (P : A → Type κ) (b : Bool) {x y : A} → (b ≡ true → P x) → (b ≡ false → P y) → P (cond b x y)
@@ -14,37 +14,12 @@ pub if_second {ℓ} : {A : Type ℓ} (b : Bool) {x y z : A} → (x ≡ z → ⊥
 if_second true n e = absurd (n e)
 if_second false n e = (refl, e)
 
--- ---- tests joined
-
-pub or_left : (a b : Bool) → (a || b) ≡ false → a ≡ false
-or_left true b e = e
-or_left false b e = refl
-
-pub or_right : (a b : Bool) → (a || b) ≡ false → b ≡ false
-or_right true b e = cc
-or_right false b e = e
-
 -- two constructors of a type differ: of an equation between them `cc` makes 0 ≡ 1
 pub differ : {A : Type 0} → ◌≡◌ {A = ℕ} 0 1 → A
 differ e = absurd (omega (arith, e))
 
 pub false_true : {A : Type 0} → false ≡ true → A
 false_true e = differ cc
-
-pub and_both : (a b : Bool) → (a && b) ≡ true → (a ≡ true) × (b ≡ true)
-and_both true b e = (refl, e)
-and_both false b e = false_true e
-
-pub both_and : (a b : Bool) → a ≡ true → b ≡ true → (a && b) ≡ true
-both_and a b p q = rw (p, q) refl
-
-pub and_false : (b : Bool) → (b && false) ≡ false
-and_false true = refl
-and_false false = refl
-
-pub not_and : (b : Bool) → (not b && b) ≡ false
-not_and true = refl
-not_and false = refl
 
 -- two choices side by side, whose tests are equal: what relates their answers relates the choices
 pub row {ℓ κ μ} : {A : Type ℓ} {B : Type κ} (R : A → B → Type μ) (b c : Bool) {x y : A} {u v : B} → b ≡ c → (c ≡ true → R x u) → (c ≡ false → R y v)

@@ -9,9 +9,6 @@ pub fn put(store: &mut [u8], at: usize, bytes: &[u8])
     requires { at + length bytes.now ≤ length store.old }
     ensures { store.new ≡ Bytes.put store.old at bytes.now }
 {
-    let mut i = 0;
-    while i < bytes.len() {
-        store[at + i] = bytes[i];
-        i += 1;
-    }
+    let end = at + bytes.len();
+    store[at..end].copy_from_slice(bytes);
 }

@@ -1,9 +1,11 @@
 -- The bytes of "The log program": which are a record, and the line that answers one.
 -- Assumes nothing.
-use Rattle.std.specs.Prelude.{ℕ, ◌+◌, ◌*◌, ◌/◌, ◌%◌, Bool, false, not, ◌&&◌, List, [], ◌∷◌, ◌++◌, eqb, leb, ltb, length, if◌then◌else◌}
+use Rattle.std.specs.Prelude.{ℕ, ◌+◌, ◌*◌, ◌/◌, ◌%◌, Bool, not, ◌&&◌, List, [], ◌∷◌, ◌++◌, eqb, leb, ltb, length, if◌then◌else◌, Option, Some, None, Result, Ok, Err}
 use Rattle.lent.specs.Bytes.{byte_at}
+use Rattle.log_records.specs.declared.BadRecord.{BadRecord}
+use Rattle.log_records.specs.declared.Tag.{Tag}
+use Rattle.log_records.specs.declared.Tag.TheVariants.{Packet, Poll, Timeout, Take, Complete, Reset}
 use Rattle.log_records.specs.declared.Head.{Head}
-use Rattle.log_records.specs.declared.Head.TheVariants.{Bad, More, Record}
 
 -- ---- records: one-byte tag, two-byte length (low first), bytes
 
@@ -11,16 +13,28 @@ use Rattle.log_records.specs.declared.Head.TheVariants.{Bad, More, Record}
 abbrev pub longest : ℕ
 longest = 4300
 
+abbrev pub bad_record : BadRecord
+bad_record = record {}
+
+-- the tag that a first byte says
+unfoldable pub tag_of : ℕ → Result Tag BadRecord
+tag_of n =
+    if eqb n 1 then Ok Packet
+    else if eqb n 2 then Ok Poll
+    else if eqb n 3 then Ok Timeout
+    else if eqb n 4 then Ok Take
+    else if eqb n 5 then Ok Complete
+    else if eqb n 6 then Ok Reset
+    else Err bad_record
+
 -- a tag, and a length that a record with this tag may have
-unfoldable pub is_record : ℕ → ℕ → Bool
-is_record tag n =
-    if eqb tag 1 then leb n longest
-    else if eqb tag 2 then eqb n 0
-    else if eqb tag 3 then eqb n 1
-    else if eqb tag 4 then eqb n 1
-    else if eqb tag 5 then leb 1 n && leb n longest
-    else if eqb tag 6 then eqb n 0
-    else false
+abbrev pub is_record : Tag → ℕ → Bool
+is_record Packet n = leb n longest
+is_record Poll n = eqb n 0
+is_record Timeout n = eqb n 1
+is_record Take n = eqb n 1
+is_record Complete n = leb 1 n && leb n longest
+is_record Reset n = eqb n 0
 
 -- tag and length
 abbrev pub head_size : ℕ
@@ -29,14 +43,23 @@ head_size = 3
 abbrev pub length_of : List ℕ → ℕ
 length_of bytes = byte_at bytes 1 + byte_at bytes 2 * 256
 
+abbrev pub head : Tag → ℕ → Head
+head tag n = record { tag = tag; size = n }
+
+-- three bytes or more, by the tag: no record, bytes are missing, or a whole record's tag and length
+abbrev pub headed_by : List ℕ → Result Tag BadRecord → Result (Option Head) BadRecord
+headed_by bytes (Err e) = Err e
+headed_by bytes (Ok tag) =
+    if not (is_record tag (length_of bytes)) then Err bad_record
+    else if ltb (length bytes) (head_size + length_of bytes) then Ok None
+    else Ok (Some (head tag (length_of bytes)))
+
 -- what stands at the front of the bytes that are not yet read: bytes are missing, no record, or a whole record's tag and length
-unfoldable pub headed : List ℕ → Head
-unfolding is_record
+unfoldable pub headed : List ℕ → Result (Option Head) BadRecord
+unfolding tag_of
 headed bytes =
-    if ltb (length bytes) head_size then More
-    else if not (is_record (byte_at bytes 0) (length_of bytes)) then Bad
-    else if ltb (length bytes) (head_size + length_of bytes) then More
-    else Record (byte_at bytes 0) (length_of bytes)
+    if ltb (length bytes) head_size then Ok None
+    else headed_by bytes (tag_of (byte_at bytes 0))
 
 -- ---- lines
 

@@ -7,7 +7,8 @@ use native.Mathlib.Omega.{arith}
 use lib.ListN.{length, take, drop, length-drop}
 use Rattle.log_records.specs.Records.{headed}
 use Rattle.log_records.specs.declared.Head.{Head}
-use Rattle.log_records.specs.declared.Head.TheVariants.{Bad, More, Record}
+use Rattle.log_records.specs.declared.BadRecord.{BadRecord}
+use Rattle.std.specs.Prelude.{Option, Some, None, Result, Ok, Err}
 use Rattle.log_records.proofs.Heads.{Whole, whole}
 use Rattle.log_session.specs.Log.{Recorded, recorded}
 use Rattle.log_session.specs.Whole.{Printing, by_head, printed_in, owed}
@@ -19,14 +20,17 @@ by_rest : (f g : Printing) (s : Session) (a b input : List ℕ)
     → by_head f s a b input (headed input) ≡ by_head g s a b input (headed input)
 by_rest f g s a b input same = go (headed input) (whole input)
   where
-    go : (h : Head) → Whole (length input) h → by_head f s a b input h ≡ by_head g s a b input h
-    go Bad w = refl
-    go More w = refl
-    go (Record tag n) w = go_on (recorded s a b tag (take n (drop 3 input)))
+    go : (h : Result (Option Head) BadRecord) → Whole (length input) h → by_head f s a b input h ≡ by_head g s a b input h
+    go (Err e) w = refl
+    go (Ok None) w = refl
+    go (Ok (Some h)) w = go_on (recorded s a b h.tag (take h.size (drop 3 input)))
       where
         go_on : (r : Recorded)
-            → r.line ++ f r.session r.store0 r.store1 (drop (3 + n) input) ≡ r.line ++ g r.session r.store0 r.store1 (drop (3 + n) input)
-        go_on r = ap (λ (l : List ℕ). r.line ++ l) (same r.session r.store0 r.store1 (drop (3 + n) input) (simp length-drop (omega (arith, w.1))))
+            → r.line ++ f r.session r.store0 r.store1 (drop (3 + h.size) input)
+            ≡ r.line ++ g r.session r.store0 r.store1 (drop (3 + h.size) input)
+        go_on r =
+            ap (λ (l : List ℕ). r.line ++ l)
+            (same r.session r.store0 r.store1 (drop (3 + h.size) input) (simp length-drop (omega (arith, w.1))))
 
 -- any two counts that are large enough
 same_printed : (k m : ℕ) (s : Session) (a b input : List ℕ) → length input ≤ k → length input ≤ m → printed_in k s a b input ≡ printed_in m s a b input

@@ -1,6 +1,6 @@
 -- "The log program" whole: all bytes of standard input, to all bytes of standard output.
 -- Assumes nothing.
-use Rattle.std.specs.Prelude.{ℕ, zero, suc, ◌+◌, ◌≡◌, refl, List, [], ◌∷◌, ◌++◌, length, take, drop, replicate}
+use Rattle.std.specs.Prelude.{ℕ, zero, suc, ◌+◌, ◌≡◌, refl, List, [], ◌∷◌, ◌++◌, length, take, drop, replicate, Option, Some, None, Result, Ok, Err}
 use Rattle.mctp.specs.Header.{read_header}
 use Rattle.machine.specs.Receive.{received}
 use Rattle.machine.specs.Poll.{polled}
@@ -8,7 +8,7 @@ use Rattle.machine.specs.Finish.{timed_out, was_set_up}
 use Rattle.machine.specs.Wire.{store_size}
 use Rattle.log_records.specs.Records.{head_size, headed, newline, number_line}
 use Rattle.log_records.specs.declared.Head.{Head}
-use Rattle.log_records.specs.declared.Head.TheVariants.{Bad, More, Record}
+use Rattle.log_records.specs.declared.BadRecord.{BadRecord}
 use Rattle.log_session.specs.Log.{at_start, Recorded, recorded}
 use Rattle.log_session.specs.declared.Session.{Session}
 
@@ -30,10 +30,11 @@ abbrev pub going_on : Printing → List ℕ → Recorded → List ℕ
 going_on rest input r = r.line ++ rest r.session r.store0 r.store1 input
 
 -- by what stands at the front of the input; `rest` is for what stands behind a record
-abbrev pub by_head : Printing → Session → List ℕ → List ℕ → List ℕ → Head → List ℕ
-by_head rest s a b input Bad = bad_line
-by_head rest s a b input More = last_line input
-by_head rest s a b input (Record tag n) = going_on rest (drop (head_size + n) input) (recorded s a b tag (take n (drop head_size input)))
+abbrev pub by_head : Printing → Session → List ℕ → List ℕ → List ℕ → Result (Option Head) BadRecord → List ℕ
+by_head rest s a b input (Err e) = bad_line
+by_head rest s a b input (Ok None) = last_line input
+by_head rest s a b input (Ok (Some h)) =
+    going_on rest (drop (head_size + h.size) input) (recorded s a b h.tag (take h.size (drop head_size input)))
 
 -- with no more than so many records
 unfoldable pub printed_in : ℕ → Printing

@@ -88,7 +88,7 @@ poll_after i is buffer h g r a = by (poll_case h.world buffer g.sound)
   where
     by : {s : Stepped} → PollCase h.world buffer s → There (phase_at s.world i)
     by (still n _) = waits r a
-    by (replies _ _) = waits r a
+    by (replies _ _ _) = waits r a
     by (sends k q c counted) = false_true (sym (held_poll i is buffer h.world (flag_set i is h g r a)) ∙ counted)
 
 after : (i : ℕ) → i ≤ 1 → (c : Call) (h : History) → Good h → cuts i c h.world ≡ false → (r : Response) → phase_at h.world i ≡ Answered r

@@ -6,12 +6,12 @@ use mathlib.Core.Bool.{Bool, false, not}
 use native.Mathlib.Omega.{arith}
 use lib.Dec.{eqb}
 use borrow.Author.Tests.{ltb-true, eqb-true, not-false}
-use Rattle.lent.proofs.Choice.{if_ind, differ}
+use Rattle.lent.proofs.Choice.{if_ind}
 use Rattle.machine.specs.State.{slot_at}
-use Rattle.machine.specs.Finish.{is_slot, take_ended, with_mark, taken_row, taken_from, taken, is_present, presented_row, presented_in, presented}
+use Rattle.machine.specs.Finish.{TakeDone, is_slot, take_ended, with_mark, taken_row, taken_from, taken, is_present, presented_row, presented_in, presented}
 use Rattle.machine.specs.Calls.{number}
-use Rattle.machine.specs.Types.{Ticket, Taking, Untaken, Taken, Request, Phase, Idle, Receive, Process, Answered, Transmit, Endpoint, TakeDone, Presented, Unmatched, Matched}
-use Rattle.machine.specs.declared.TakeAnswer.TheVariants.{Refused, Given}
+use Rattle.machine.specs.Types.{Ticket, Taking, Untaken, Taken, Request, Phase, Idle, Receive, Process, Answered, Transmit, Endpoint}
+use Rattle.std.specs.Prelude.{Result, Ok, Err}
 
 pub same_number : {m n : ℕ} → number m ≡ number n → m ≡ n
 same_number e = cc
@@ -33,8 +33,8 @@ pub record Waiting (e : Endpoint) (i : ℕ) : Type 0 where
   pub in_process : (slot_at e i).phase ≡ Process request
   pub untaken : request.taking ≡ Untaken
 
-pub take_cases : (P : TakeDone → Type 0) (e : Endpoint) (i : ℕ) → ((n : ℕ) → NotTaken n → P (take_ended (Refused n) e))
-    → ((k : Waiting e i) → P (take_ended (Given (slot_at e i).ticket) (with_mark e i k.request false))) → P (taken e i)
+pub take_cases : (P : TakeDone → Type 0) (e : Endpoint) (i : ℕ) → ((n : ℕ) → NotTaken n → P (take_ended (Err n) e))
+    → ((k : Waiting e i) → P (take_ended (Ok (slot_at e i).ticket) (with_mark e i k.request false))) → P (taken e i)
 unfolding taken
 take_cases P e i refused found = if_ind P (not (is_slot i)) (λ _. refused 30 take_30) (λ h. from (slot_most i h) (slot_at e i).phase refl)
   where
@@ -78,8 +78,8 @@ pub record Match (e : Endpoint) (i : ℕ) (t : Ticket) : Type 0 where
   pub was : Bool
   pub was_taken : request.taking ≡ Taken was
 
-pub ticket_cases : (P : Presented → Type 0) (e : Endpoint) (i : ℕ) (t : Ticket) → ((n : ℕ) → NotMatched n → P (Unmatched n))
-    → ((k : Match e i t) → P (Matched k.request)) → P (presented e i t)
+pub ticket_cases : (P : Result Request ℕ → Type 0) (e : Endpoint) (i : ℕ) (t : Ticket) → ((n : ℕ) → NotMatched n → P (Err n))
+    → ((k : Match e i t) → P (Ok k.request)) → P (presented e i t)
 unfolding presented
 ticket_cases P e i t refused found = if_ind P (not (is_slot i)) (λ _. refused 30 ticket_30) (λ h. into (slot_most i h) (slot_at e i).phase refl)
   where
@@ -95,7 +95,3 @@ ticket_cases P e i t refused found = if_ind P (not (is_slot i)) (λ _. refused 3
         (λ k. row is r p (eqb-true t.0 (slot_at e i).ticket.0 (not-false (is_present t (slot_at e i)) k)) r.taking refl)
     into is (Answered r) p = refused 31 ticket_31
     into is (Transmit r) p = refused 31 ticket_31
-
--- the number of a slot that has a taken command
-pub matched_slot : (e : Endpoint) (i : ℕ) (t : Ticket) {r : Request} → presented e i t ≡ Matched r → i ≤ 1
-matched_slot e i t {r} = ticket_cases (λ (x : Presented). x ≡ Matched r → i ≤ 1) e i t (λ n d q. differ (cc q)) (λ k _. k.slot_is)

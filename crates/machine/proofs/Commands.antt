@@ -8,14 +8,13 @@ use native.Mathlib.Omega.{arith}
 use lib.Dec.{eqb, ltb}
 use lib.ListN.{length, take}
 use borrow.Author.Tests.{eqb-true}
-use Rattle.std.specs.Prelude.{if◌then◌else◌}
+use Rattle.std.specs.Prelude.{Result, Ok, Err, if◌then◌else◌}
 use Rattle.lent.proofs.Choice.{if_second, false_true, differ}
 use Rattle.mctp.specs.Header.{payload_of}
 use Rattle.nvme_mi.specs.Check.{check_right}
 use Rattle.nvme_mi.specs.Message.{message_header, command_fault, smallest}
 use Rattle.nvme_mi.specs.Response.{fault_body}
 use Rattle.nvme_mi.specs.declared.Fault.{Fault}
-use Rattle.nvme_mi.specs.declared.Fault.TheVariants.{NoFault, Parameter, Failure}
 use Rattle.machine.specs.State.{World, Outcome, slot_at, store_at, with_slot, ticket}
 use Rattle.machine.specs.Process.{responded_at_once, entered}
 use Rattle.machine.specs.Receive.{refused, refused_busy, received}
@@ -33,7 +32,7 @@ use Rattle.machine.proofs.Receiving.{Joining, filled, grown, whole, Ground, in_t
 use Rattle.machine.proofs.Keeps.{Chosen, chosen_at, step_sound}
 use Rattle.machine.proofs.Places.{Which, this, that, which, slot_that}
 use Rattle.machine.proofs.Fits.{takes_of, Asked, Fit, Entry, entered as came, stayed, Steady, same, newly, released, handed_over, worked, fell, There, settled_there, answered_not, some_response, at_entry, fixed_is}
-use Rattle.machine.proofs.Received.{Mid, for_this, in_process, whole_is, size_is, start_mid, ended_mid, w₂, command}
+use Rattle.machine.proofs.Carried.{Mid, for_this, in_process, whole_is, size_is, start_mid, ended_mid, w₂, command}
 use Rattle.machine.proofs.Polling.{PollCase, still, replies, sends, poll_case}
 use Rattle.machine.proofs.Histories.{Good, by_kind, plain_carries, kept_by, good_every, next_unit, for_unit}
 use Rattle.machine.proofs.Tickets.{gave, accepted}
@@ -76,14 +75,13 @@ module _ (w₀ : World) (p : List ℕ) (trace : ℕ → Trace) (s₀ : Sound w�
     long = size_is w₀ p trace s₀ fits w i at j lo m
 
     -- no test at the entry failed: it waits in Process
-    in_store : (f : Fault) → fixed_at_entry i request ≡ at_entry i request f → fixed_at_entry i request ≡ []
+    in_store : (f : Result (Unit {0}) Fault) → fixed_at_entry i request ≡ at_entry i request f → fixed_at_entry i request ≡ []
         → (phase_at (responded_at_once (w₂ w₀ p trace s₀ fits w i at j lo m) i (command w₀ p trace s₀ fits w i at j lo m) f) i
         ≡ Process (record { source = source_of p; tag = message_tag_of p; kind = kind_of request; length = length request; taking = Untaken }))
         × (take (length request) (store_at (responded_at_once (w₂ w₀ p trace s₀ fits w i at j lo m) i (command w₀ p trace s₀ fits w i at j lo m) f) i) ≡ request)
-    in_store NoFault e none =
+    in_store (Ok nothing) e none =
         (in_process w₀ p trace s₀ fits w i at j lo m ∙ rw (text_is, long) refl, rw (sym long) text_is)
-    in_store (Parameter byte bit) e none = absurd (response_filled i request (fault_body (Parameter byte bit)) (sym e ∙ none))
-    in_store (Failure status) e none = absurd (response_filled i request (fault_body (Failure status)) (sym e ∙ none))
+    in_store (Err fault) e none = absurd (response_filled i request (fault_body (Err fault)) (sym e ∙ none))
 
     fault_is : fixed_at_entry i request ≡ at_entry i request (command_fault (message_header (whole w₀ p w i at)) (at + length (payload_of p)))
     fault_is = fixed_is i request ∙ rw (text_is, long) refl
@@ -251,7 +249,7 @@ module _ (h : History) (g : Good h) (i : ℕ) (is : i ≤ 1) (r : Request) (p : 
     where
       by : {s : Stepped} → PollCase h.world buffer s → phase_at s.world i ≡ phase_at h.world i
       by (still n _) = refl
-      by (replies _ _) = refl
+      by (replies _ _ _) = refl
       by (sends k q c counted) = at (chosen_at h.world.endpoint g.sound.state c)
         where
           at : Chosen h.world.endpoint k q → (slot_at (with_slot h.world.endpoint k (after_packet h.world.endpoint.unit (slot_at h.world.endpoint k) q)) i).phase ≡ phase_at h.world i

@@ -10,8 +10,9 @@ use lib.Dec.{eqb}
 use lib.ListN.{length}
 use lib.Seq.{take_all}
 use borrow.Author.Tests.{eq-eqb, ne_eqb, eqb-true, eqb-false, lt-ltb}
-use Rattle.std.specs.Prelude.{if◌then◌else◌}
-use Rattle.lent.proofs.Choice.{if_ind, false_true, both_and, differ}
+use Rattle.std.specs.Prelude.{Option, None, Some, Result, Ok, Err, if◌then◌else◌}
+use Rattle.std.proofs.lemmas.Bool.{and_from, and_left, and_right}
+use Rattle.lent.proofs.Choice.{if_ind, false_true, differ}
 use Rattle.mctp.specs.Cut.{packets}
 use Rattle.mctp.proofs.Laws.{packets_bounds, packets_most, packets_cover}
 use Rattle.machine.specs.State.{World, slot_at, store_at, with_slot, with_endpoint, with_phase, reply_sent, packet_sent, holding}
@@ -21,9 +22,8 @@ use Rattle.machine.specs.Valid.{phased, is_begun, Fits, PhaseFacts, Valid}
 use Rattle.machine.specs.Calls.{Call, receive, take!, read, complete, declare, poll, timeout, reset, is_plain, number, handed_out, Stepped, stepped, take_event, step}
 use Rattle.machine.specs.History.{Trace, History, phase_at, is_transmit, moved, is_packet_of, transmitted, trace_after, counts, one?, next, run, start, cuts, packets_left, last_packet_out, unit_of, over_unit}
 use Rattle.machine.specs.Demands.{Fate, cut, delivered, open!, fate, Within, most_packets, polls_for, is_process, Demand3, most_polls, AtMost, Quoted}
-use Rattle.machine.specs.Types.{Outgoing, Phase, Idle, Receive, Process, Answered, Transmit, Slot, Endpoint, TakeAnswer, Ready, Nothing, From}
-use Rattle.machine.specs.declared.TakeAnswer.TheVariants.{Refused, Given}
-use Rattle.machine.proofs.Slots.{is_early, facts_at, slot_facts, other_most}
+use Rattle.machine.specs.Types.{Ticket, Outgoing, Phase, Idle, Receive, Process, Answered, Transmit, Slot, Reply, Endpoint}
+use Rattle.machine.proofs.Slots.{is_early, facts_at, slot_facts, other_most, same_found}
 use Rattle.machine.proofs.Keeps.{Chosen, chosen_at}
 use Rattle.machine.proofs.Places.{frame_unit, frame_turn, frame_last, Which, this, that, which, other_differs, other_back, slot_this, slot_that}
 use Rattle.machine.proofs.Fits.{Going, Steady, same, newly, released, handed_over, worked, fell, settled_begun}
@@ -129,46 +129,46 @@ plain_step i is c h g p n r t =
 
 -- ---- which packet goes
 
-begun_or_some : (k : ℕ) (p : Phase) (other : Ready) → (other ≡ Nothing → ⊥) → begun_or k p other ≡ Nothing → ⊥
+begun_or_some : (k : ℕ) (p : Phase) (other : Option (ℕ × Outgoing)) → (other ≡ None → ⊥) → begun_or k p other ≡ None → ⊥
 begun_or_some k (Idle held) other n e = n e
 begun_or_some k (Receive a) other n e = n e
 begun_or_some k (Process r) other n e = n e
 begun_or_some k (Answered r) other n e = n e
-begun_or_some k (Transmit r) other n e = if_ind (λ (x : Ready). x ≡ Nothing → ⊥) (has_begun r) (λ _ q. differ (cc q)) (λ _ q. n q) e
+begun_or_some k (Transmit r) other n e = if_ind (λ (x : Option (ℕ × Outgoing)). x ≡ None → ⊥) (has_begun r) (λ _ q. differ (cc q)) (λ _ q. n q) e
 
-sending_or_some : (k : ℕ) (p : Phase) (other : Ready) (r : Outgoing) → p ≡ Transmit r → sending_or k p other ≡ From k r
+sending_or_some : (k : ℕ) (p : Phase) (other : Option (ℕ × Outgoing)) (r : Outgoing) → p ≡ Transmit r → sending_or k p other ≡ Some (k, r)
 sending_or_some k p other r e = rw e refl
 
-sending_or_other : (k : ℕ) (p : Phase) (other : Ready) → (other ≡ Nothing → ⊥) → sending_or k p other ≡ Nothing → ⊥
+sending_or_other : (k : ℕ) (p : Phase) (other : Option (ℕ × Outgoing)) → (other ≡ None → ⊥) → sending_or k p other ≡ None → ⊥
 sending_or_other k (Idle held) other n e = n e
 sending_or_other k (Receive a) other n e = n e
 sending_or_other k (Process r) other n e = n e
 sending_or_other k (Answered r) other n e = n e
 sending_or_other k (Transmit r) other n e = differ (cc e)
 
-from_none : {k : ℕ} {r : Outgoing} {x : Ready} → x ≡ From k r → x ≡ Nothing → ⊥
+from_none : {k : ℕ} {r : Outgoing} {x : Option (ℕ × Outgoing)} → x ≡ Some (k, r) → x ≡ None → ⊥
 from_none a b = differ (cc (a, b))
 
-abbrev by_turn : Endpoint → Ready
-by_turn e = sending_or e.turn (slot_at e e.turn).phase (sending_or (other_slot e.turn) (slot_at e (other_slot e.turn)).phase Nothing)
+abbrev by_turn : Endpoint → Option (ℕ × Outgoing)
+by_turn e = sending_or e.turn (slot_at e e.turn).phase (sending_or (other_slot e.turn) (slot_at e (other_slot e.turn)).phase None)
 
 -- a slot in Transmit: something is chosen
-turn_some : (e : Endpoint) → Valid e → (i : ℕ) → i ≤ 1 → (r : Outgoing) → (slot_at e i).phase ≡ Transmit r → by_turn e ≡ Nothing → ⊥
+turn_some : (e : Endpoint) → Valid e → (i : ℕ) → i ≤ 1 → (r : Outgoing) → (slot_at e i).phase ≡ Transmit r → by_turn e ≡ None → ⊥
 turn_some e v i is r t = at (which e.turn i v.numbers.turn_most is)
   where
-    at : Which e.turn i → by_turn e ≡ Nothing → ⊥
+    at : Which e.turn i → by_turn e ≡ None → ⊥
     at (this q) n = from_none (sending_or_some e.turn (slot_at e e.turn).phase _ r (rw q at t)) n
     at (that q) n =
         sending_or_other e.turn (slot_at e e.turn).phase _
-        (λ m. from_none (sending_or_some (other_slot e.turn) (slot_at e (other_slot e.turn)).phase Nothing r (rw q at t)) m) n
+        (λ m. from_none (sending_or_some (other_slot e.turn) (slot_at e (other_slot e.turn)).phase None r (rw q at t)) m) n
 
-pub chosen_some : (e : Endpoint) → Valid e → (i : ℕ) → i ≤ 1 → (r : Outgoing) → (slot_at e i).phase ≡ Transmit r → chosen e ≡ Nothing → ⊥
+pub chosen_some : (e : Endpoint) → Valid e → (i : ℕ) → i ≤ 1 → (r : Outgoing) → (slot_at e i).phase ≡ Transmit r → chosen e ≡ None → ⊥
 unfolding chosen
 chosen_some e v i is r t n =
     begun_or_some 0 (slot_at e 0).phase _ (λ m. begun_or_some 1 (slot_at e 1).phase (by_turn e) (turn_some e v i is r t) m) n
 
 -- with none begun the turn decides
-begun_or_not : (k : ℕ) (p : Phase) (other : Ready) → is_begun p ≡ false → begun_or k p other ≡ other
+begun_or_not : (k : ℕ) (p : Phase) (other : Option (ℕ × Outgoing)) → is_begun p ≡ false → begun_or k p other ≡ other
 begun_or_not k (Idle held) other h = refl
 begun_or_not k (Receive a) other h = refl
 begun_or_not k (Process r) other h = refl
@@ -181,23 +181,20 @@ each_slot P (suc zero) h a b = (b, a)
 each_slot P (suc (suc n)) h a b = absurd (omega arith)
 
 turn_decides : (e : Endpoint) → Valid e → (i : ℕ) → i ≤ 1 → (r q : Outgoing) → (slot_at e i).phase ≡ Transmit r → is_begun (slot_at e i).phase ≡ false
-    → is_begun (slot_at e (other_slot i)).phase ≡ false → chosen e ≡ From (other_slot i) q → eqb e.turn (other_slot i) ≡ true
+    → is_begun (slot_at e (other_slot i)).phase ≡ false → chosen e ≡ Some (other_slot i, q) → eqb e.turn (other_slot i) ≡ true
 unfolding chosen
 turn_decides e v i is r q t a b c = at (which i e.turn is v.numbers.turn_most)
   where
     none : (is_begun (slot_at e 0).phase ≡ false) × (is_begun (slot_at e 1).phase ≡ false)
     none = each_slot (λ (k : ℕ). is_begun (slot_at e k).phase ≡ false) i is a b
 
-    by_turn_lem : by_turn e ≡ From (other_slot i) q
+    by_turn_lem : by_turn e ≡ Some (other_slot i, q)
     by_turn_lem = sym (begun_or_not 0 (slot_at e 0).phase _ none.0 ∙ begun_or_not 1 (slot_at e 1).phase (by_turn e) none.1) ∙ c
-
-    same_slot : {k m : ℕ} {x y : Outgoing} → From k x ≡ From m y → k ≡ m
-    same_slot p = cc
 
     at : Which i e.turn → eqb e.turn (other_slot i) ≡ true
     at (this p) =
-        let here : by_turn e ≡ From e.turn r = sending_or_some e.turn (slot_at e e.turn).phase _ r (rw (sym p) at t) in
-        absurd (other_differs i is (sym (same_slot (sym here ∙ by_turn_lem)) ∙ p))
+        let here : by_turn e ≡ Some (e.turn, r) = sending_or_some e.turn (slot_at e e.turn).phase _ r (rw (sym p) at t) in
+        absurd (other_differs i is (sym (same_found (sym here ∙ by_turn_lem)).0 ∙ p))
     at (that p) = eq-eqb e.turn (other_slot i) p
 
 -- ---- one call's progress with slot i's response
@@ -213,13 +210,6 @@ data Progress (i : ℕ) (c : Call) (h : History) (s : Stepped) : Type 0 where
   finished : last_by i c h s ≡ true → ((next_by c h s).trace i).payloads ≡ ((next_by c h s).trace i).response → Progress i c h s
   goes : last_by i c h s ≡ false → (r : Outgoing) → phase_at s.world i ≡ Transmit r
       → measure i s.world.endpoint + one? (counts c h.world) ≤ measure i h.world.endpoint → Progress i c h s
-
-and_no : (b : Bool) → b ≡ false → (c : Bool) → (b && c) ≡ false
-and_no b e c = rw e refl
-
-no_and : (b c : Bool) → c ≡ false → (b && c) ≡ false
-no_and true c e = e
-no_and false c e = refl
 
 module _ (i : ℕ) (is : i ≤ 1) (buffer : List ℕ) (h : History) (g : Good h) (r : Outgoing) (t : phase_at h.world i ≡ Transmit r) where
   abbrev e₀ : Endpoint
@@ -237,11 +227,11 @@ module _ (i : ℕ) (is : i ≤ 1) (buffer : List ℕ) (h : History) (g : Good h)
   going : Going e₀.unit r (store_at h.world i) (h.trace i)
   going = rw t at (g.fits i is).phase_fits
 
-  some_chosen : chosen e₀ ≡ Nothing → ⊥
+  some_chosen : chosen e₀ ≡ None → ⊥
   some_chosen = chosen_some e₀ v₀ i is r t
 
   -- nothing is sent: then the poll is not counted
-  nothing_sent : (n : ℕ) → (counts (poll buffer) h.world ≡ true → chosen e₀ ≡ Nothing) → Progress i (poll buffer) h (stepped (number n) h.world)
+  nothing_sent : (n : ℕ) → (counts (poll buffer) h.world ≡ true → chosen e₀ ≡ None) → Progress i (poll buffer) h (stepped (number n) h.world)
   nothing_sent n k = goes refl r t (go (counts (poll buffer) h.world) refl)
     where
       go : (b : Bool) → counts (poll buffer) h.world ≡ b → measure i e₀ + one? b ≤ measure i e₀
@@ -249,9 +239,9 @@ module _ (i : ℕ) (is : i ≤ 1) (buffer : List ℕ) (h : History) (g : Good h)
       go false e = omega arith
 
   -- a control reply goes: the next poll is a command packet's
-  control_sent : (counts (poll buffer) h.world ≡ true → (chosen e₀ ≡ Nothing → ⊥) → e₀.last_control ≡ false)
-      → Progress i (poll buffer) h (stepped (handed_out (control_packet e₀)) (with_endpoint h.world (reply_sent e₀)))
-  control_sent k = goes (and_no _ (moved_same (phase_at h.world i)) _) r t (go (counts (poll buffer) h.world) refl e₀.last_control refl)
+  control_sent : (reply : Reply) → (counts (poll buffer) h.world ≡ true → (chosen e₀ ≡ None → ⊥) → e₀.last_control ≡ false)
+      → Progress i (poll buffer) h (stepped (handed_out (control_packet e₀ reply)) (with_endpoint h.world (reply_sent e₀)))
+  control_sent reply k = goes (and_left _ _ (moved_same (phase_at h.world i))) r t (go (counts (poll buffer) h.world) refl e₀.last_control refl)
     where
       go : (b : Bool) → counts (poll buffer) h.world ≡ b → (l : Bool) → e₀.last_control ≡ l
           → 2 * (left_in e₀.unit (phase_at h.world i) + ahead i e₀) + 0 + one? b ≤ 2 * (left_in e₀.unit (phase_at h.world i) + ahead i e₀) + one_more l
@@ -291,7 +281,7 @@ module _ (i : ℕ) (is : i ≤ 1) (buffer : List ℕ) (h : History) (g : Good h)
   is_last_lem last =
       let n : r.sent + 1 ≡ packets e₀.unit r.response.length = eqb-true (r.sent + 1) (packets e₀.unit r.response.length) last in
       let none : packets_left i (next_by (poll buffer) h own) ≡ 0 = own_left ∙ omega (arith, n) in
-      both_and (moved (phase_at h.world i) (phase_at own.world i)) (eqb (packets_left i (next_by (poll buffer) h own)) 0) own_moves (eq-eqb (packets_left i (next_by (poll buffer) h own)) 0 none)
+      and_from (moved (phase_at h.world i) (phase_at own.world i)) (eqb (packets_left i (next_by (poll buffer) h own)) 0) own_moves (eq-eqb (packets_left i (next_by (poll buffer) h own)) 0 none)
 
   own_last : is_last e₀.unit r ≡ true → Progress i (poll buffer) h own
   own_last last =
@@ -308,7 +298,7 @@ module _ (i : ℕ) (is : i ≤ 1) (buffer : List ℕ) (h : History) (g : Good h)
 
   pub not_last : is_last e₀.unit r ≡ false → last_by i (poll buffer) h own ≡ false
   not_last more =
-      no_and (moved (phase_at h.world i) (phase_at own.world i)) (eqb (packets_left i (next_by (poll buffer) h own)) 0)
+      and_right (moved (phase_at h.world i) (phase_at own.world i)) (eqb (packets_left i (next_by (poll buffer) h own)) 0)
       (ne_eqb (packets_left i (next_by (poll buffer) h own)) 0 (λ z. omega (arith, more_behind more, sym own_left ∙ z)))
 
   own_more : is_last e₀.unit r ≡ false → counts (poll buffer) h.world ≡ true → Progress i (poll buffer) h own
@@ -322,7 +312,7 @@ module _ (i : ℕ) (is : i ≤ 1) (buffer : List ℕ) (h : History) (g : Good h)
       goes (not_last more) (advanced r) phase (rw counted (omega (arith, left, front, was, n)))
 
   -- a packet of the other slot
-  module _ (q : Outgoing) (c : chosen e₀ ≡ From (other_slot i) q) where
+  module _ (q : Outgoing) (c : chosen e₀ ≡ Some (other_slot i, q)) where
     abbrev o : ℕ
     o = other_slot i
 
@@ -379,7 +369,7 @@ module _ (i : ℕ) (is : i ≤ 1) (buffer : List ℕ) (h : History) (g : Good h)
 
     theirs_goes : counts (poll buffer) h.world ≡ true → Progress i (poll buffer) h theirs
     theirs_goes counted =
-        goes (and_no _ (ap (moved (phase_at h.world i)) mine ∙ moved_same (phase_at h.world i)) _) r (mine ∙ t)
+        goes (and_left _ _ (ap (moved (phase_at h.world i)) mine ∙ moved_same (phase_at h.world i))) r (mine ∙ t)
         (rw counted (omega (arith, ap (left_in e₀.unit) mine, ahead_least, ahead_after)))
 
   poll_progress : Progress i (poll buffer) h (step (poll buffer) h.world)
@@ -393,7 +383,7 @@ module _ (i : ℕ) (is : i ≤ 1) (buffer : List ℕ) (h : History) (g : Good h)
       same_response p q = cc
 
       -- the packet is slot i's, or the other's
-      sent : (k : ℕ) (q : Outgoing) → chosen e₀ ≡ From k q → counts (poll buffer) h.world ≡ true → Which i k
+      sent : (k : ℕ) (q : Outgoing) → chosen e₀ ≡ Some (k, q) → counts (poll buffer) h.world ≡ true → Which i k
           → Progress i (poll buffer) h
           (stepped (handed_out (command_packet h.world k q)) (with_endpoint h.world (packet_sent (with_slot e₀ k (after_packet e₀.unit (slot_at e₀ k) q)) (other_slot k))))
       sent k q c counted (this e) =
@@ -403,7 +393,7 @@ module _ (i : ℕ) (is : i ≤ 1) (buffer : List ℕ) (h : History) (g : Good h)
 
       by : {s : Stepped} → PollCase h.world buffer s → Progress i (poll buffer) h s
       by (still n k) = nothing_sent n k
-      by (replies a k) = control_sent k
+      by (replies reply a k) = control_sent reply k
       by (sends k q c counted) = sent k q c counted (which i k is (chosen_at e₀ v₀ c).slot_is)
 
 -- ---- any call
@@ -413,9 +403,9 @@ pub record Mute (c : Call) (w : World) : Type 0 where
   pub no_packet : (p q : Phase) → is_packet_of p q (step c w).event ≡ false
   pub not_counted : counts c w ≡ false
 
-take_mute : (p q : Phase) (a : TakeAnswer) → is_packet_of p q (take_event a) ≡ false
-take_mute p q (Refused n) = refl
-take_mute p q (Given t) = refl
+take_mute : (p q : Phase) (a : Result Ticket ℕ) → is_packet_of p q (take_event a) ≡ false
+take_mute p q (Err n) = refl
+take_mute p q (Ok t) = refl
 
 pub mute : (c : Call) (w : World) → is_plain c ≡ true → Mute c w
 unfolding step
@@ -433,7 +423,7 @@ plain_progress : (i : ℕ) → i ≤ 1 → (c : Call) (h : History) → Good h �
 plain_progress i is c h g p n r t =
     let k = plain_step i is c h g p n r t in
     let m = mute c h.world p in
-    goes (and_no _ (m.no_packet (phase_at h.world i) (phase_at (step c h.world).world i)) _) r k.0 (rw m.not_counted (omega (arith, k.1)))
+    goes (and_left _ _ (m.no_packet (phase_at h.world i) (phase_at (step c h.world).world i))) r k.0 (rw m.not_counted (omega (arith, k.1)))
 
 progress : (i : ℕ) → i ≤ 1 → (c : Call) (h : History) → Good h → cuts i c h.world ≡ false → (r : Outgoing) → phase_at h.world i ≡ Transmit r
     → Progress i c h (step c h.world)

@@ -8,26 +8,27 @@ use native.Mathlib.Omega.{arith}
 use lib.Dec.{eqb}
 use lib.ListN.{length, take}
 use borrow.Author.Tests.{eq-eqb, ne_eqb, not-false}
-use Rattle.std.specs.Prelude.{if◌then◌else◌}
+use Rattle.std.specs.Prelude.{Result, if◌then◌else◌}
 use Rattle.lent.specs.Bytes.{put}
-use Rattle.lent.proofs.Choice.{if_ind, or_left, false_true}
+use Rattle.std.proofs.lemmas.Bool.{or_parts}
+use Rattle.lent.proofs.Choice.{if_ind, false_true}
 use Rattle.lent.proofs.Stores.{take_put}
 use Rattle.nvme_mi.specs.Response.{response}
 use Rattle.nvme_mi.proofs.Laws.{length_response}
-use Rattle.machine.specs.State.{World, Outcome, outcome, slot_at, store_at, with_slot, with_store, with_phase, idled, settled}
+use Rattle.machine.specs.State.{World, Outcome, Done, outcome, slot_at, store_at, with_slot, with_store, with_phase, idled, settled}
 use Rattle.machine.specs.Wire.{response_place, wrong_stores}
 use Rattle.machine.specs.Process.{response_to, responded}
-use Rattle.machine.specs.Finish.{is_slot, taken_request, with_mark, taken, is_body, completed_by, completed, declared_by, was_declared, is_receive, timed_out, was_reset}
+use Rattle.machine.specs.Finish.{TakeDone, is_slot, taken_request, with_mark, taken, is_body, completed_by, completed, declared_by, was_declared, is_receive, timed_out, was_reset}
 use Rattle.machine.specs.Poll.{other_slot}
 use Rattle.machine.specs.Valid.{Valid, Sound}
 use Rattle.machine.specs.Calls.{take!, read, complete, declare, timeout, number, stepped, by_outcome, by_done, by_take, step}
 use Rattle.machine.specs.History.{Trace, phase_at, with_takes, completing, commanded, transmitted}
-use Rattle.machine.specs.Types.{Ticket, Request, Phase, Idle, Receive, Process, Answered, Transmit, Slot, Done, TakeDone, Presented}
+use Rattle.machine.specs.Types.{Ticket, Request, Phase, Idle, Receive, Process, Answered, Transmit, Slot}
 use Rattle.machine.proofs.Slots.{is_early, other_most}
 use Rattle.machine.proofs.Cases.{slot_most, Waiting, take_cases, unmatched_not, Match, ticket_cases}
 use Rattle.machine.proofs.Places.{Which, this, that, which, other_differs, slot_this, slot_that, store_this, store_that}
 use Rattle.machine.proofs.Fits.{takes_of, Asked, Fit, stayed, handed_over, worked, Carried, quiet_other, carried_same, carried_ended, carried_cut, carried_settled, settled_process, response_is}
-use Rattle.machine.proofs.Received.{Carries}
+use Rattle.machine.proofs.Carried.{Carries}
 
 module _ (w₀ : World) (trace : ℕ → Trace) (s₀ : Sound w₀)
     (fits : (j : ℕ) → j ≤ 1 → Fit w₀.endpoint.unit (slot_at w₀.endpoint j) (store_at w₀ j) (trace j)) where
@@ -131,7 +132,7 @@ module _ (w₀ : World) (trace : ℕ → Trace) (s₀ : Sound w₀)
   complete_carries i t body =
       if_ind After (wrong_stores w₀) (λ _. none 40 refl)
       (λ _.
-      ticket_cases (λ (x : Presented). After (completed_by w₀ i body x)) w₀.endpoint i t (λ n d. none n (unmatched_not d))
+      ticket_cases (λ (x : Result Request ℕ). After (completed_by w₀ i body x)) w₀.endpoint i t (λ n d. none n (unmatched_not d))
       (λ k. if_ind After (not (is_body body)) (λ _. none 35 refl) (λ _. finished i t body k.slot_is k.request k.in_process)))
     where
       After : Outcome → Type 0
@@ -145,7 +146,7 @@ module _ (w₀ : World) (trace : ℕ → Trace) (s₀ : Sound w₀)
   pub declare_carries : (i : ℕ) (t : Ticket) (can : Bool) → Carries (declare i t can) w₀ trace (by_done w₀ (was_declared w₀.endpoint i t can))
   unfolding was_declared
   declare_carries i t can =
-      ticket_cases (λ (x : Presented). Carries (declare i t can) w₀ trace (by_done w₀ (declared_by w₀.endpoint i can x))) w₀.endpoint i t
+      ticket_cases (λ (x : Result Request ℕ). Carries (declare i t can) w₀ trace (by_done w₀ (declared_by w₀.endpoint i can x))) w₀.endpoint i t
       (λ n d. record { frame = refl; carried = λ j js. rw (unmatched_not d) (carried_same 0 refl refl (fits j js)) })
       (λ k. record { frame = refl; carried = marked i k.slot_is k.request can k.in_process (λ j. (trace j).takes) (one k) })
     where
@@ -172,7 +173,7 @@ module _ (w₀ : World) (trace : ℕ → Trace) (s₀ : Sound w₀)
       (λ k.
       record {
         frame = refl;
-        carried = λ j js. at (slot_most i h) (receive_early (phase_at w₀ i) (not-false (is_receive (phase_at w₀ i)) (or_left _ _ k))) j js (which i j (slot_most i h) js);
+        carried = λ j js. at (slot_most i h) (receive_early (phase_at w₀ i) (not-false (is_receive (phase_at w₀ i)) (or_parts _ _ k).0)) j js (which i j (slot_most i h) js);
       }))
     where
       After : Done → Type 0

@@ -2,27 +2,27 @@
 -- Assumes nothing.
 use Prim.Native.Nat.{ℕ, ◌+◌, ◌*◌, ◌/◌, ◌%◌, ◌^◌, ◌≤◌}
 use mathlib.Core.Path.{◌≡◌, refl, ap}
-use mathlib.Core.Bool.{Bool, true, false, not}
+use mathlib.Core.Bool.{Bool, true, false, not, and-false, not-and_self}
 use mathlib.Core.List.{List, [], ◌∷◌}
 use native.Mathlib.Nat.{mul-zero, mod-lt, mod-eq_of_lt, zero-lt-suc}
 use native.Mathlib.Omega.{arith}
 use lib.Dec.{ltb}
 use lib.ListN.{length, take}
 use borrow.Author.Tests.{ne_eqb}
-use Rattle.std.specs.Prelude.{if◌then◌else◌}
+use Rattle.std.specs.Prelude.{Result, Ok, Err, Option, None, Some, if◌then◌else◌}
 use Rattle.lent.specs.Bytes.{byte_at, is_set}
-use Rattle.lent.proofs.Choice.{false_true, differ, and_false, not_and}
+use Rattle.lent.proofs.Choice.{false_true, differ}
 use Rattle.nvme_mi.specs.Message.{message_header, is_known, command_fault}
 use Rattle.nvme_mi.specs.Response.{response, fault_body}
 use Rattle.nvme_mi.specs.declared.Fault.{Fault}
-use Rattle.nvme_mi.specs.declared.Fault.TheVariants.{NoFault, Parameter, Failure}
+use Rattle.nvme_mi.specs.declared.Fault.TheVariants.{Parameter, InvalidSize}
 use Rattle.machine.specs.State.{World, outgoing, settled}
 use Rattle.machine.specs.Finish.{taken_request}
 use Rattle.machine.specs.Calls.{receive, number}
 use Rattle.machine.specs.Valid.{is_begun, PhaseFacts}
 use Rattle.machine.specs.History.{Trace, is_transmit, kind_of, response_for, least_length, fixed_at_entry, commanded, sending, transmitted}
 use Rattle.machine.specs.Demands.{is_process}
-use Rattle.machine.specs.Types.{Taking, Untaken, Taken, Request, Response, Outgoing, Held, NoResponse, Last, Phase, Idle, Receive, Process, Answered, Transmit, Slot}
+use Rattle.machine.specs.Types.{Taking, Untaken, Taken, Request, Response, Outgoing, Phase, Idle, Receive, Process, Answered, Transmit, Slot}
 use Rattle.machine.proofs.Slots.{is_early}
 
 -- ---- the fit
@@ -61,9 +61,9 @@ pub record Going (unit : ℕ) (r : Outgoing) (store : List ℕ) (l : Trace) : Ty
   pub count : l.packets ≡ r.sent
 
 -- what is held lies at the store's front, and is the response of the last entry
-abbrev pub FitH : Held → List ℕ → Trace → Type 0
-FitH NoResponse store l = Unit {0}
-FitH (Last r) store l = Full r store l
+abbrev pub FitH : Option Response → List ℕ → Trace → Type 0
+FitH None store l = Unit {0}
+FitH (Some r) store l = Full r store l
 
 abbrev pub FitP : ℕ → Phase → List ℕ → Trace → Type 0
 FitP unit (Idle k) store l = FitH k store l
@@ -90,7 +90,7 @@ pub data Steady (C : Type 0) (p q : Phase) : Type 0 where
   released : (r : Response) → p ≡ Answered r → q ≡ Transmit (outgoing r 0) → Steady C p q
   handed_over : (r : Request) (can : Bool) → p ≡ Process r → q ≡ Process (taken_request r can) → Steady C p q
   worked : (r : Request) (b : Bool) (x : Response) → p ≡ Process r → q ≡ settled b x → Steady C p q
-  fell : C → q ≡ Idle NoResponse → Steady C p q
+  fell : C → q ≡ Idle None → Steady C p q
 
 pub record Carried (unit : ℕ) (C : Type 0) (s t : Slot) (store : List ℕ) (l m : Trace) : Type 0 where
   pub fit : Fit unit t store m
@@ -100,10 +100,10 @@ pub record Carried (unit : ℕ) (C : Type 0) (s t : Slot) (store : List ℕ) (l 
 -- ---- what the trace gains of a call that hands out no packet
 
 pub quiet_same : (p q : Phase) (n : ℕ) (l : Trace) → q ≡ p → transmitted p q (number n) l ≡ l
-quiet_same p q n l e = rw (e, not_and (is_transmit p)) refl
+quiet_same p q n l e = rw (e, not-and_self (is_transmit p)) refl
 
 pub quiet_other : (p q : Phase) (n : ℕ) (l : Trace) → is_transmit q ≡ false → transmitted p q (number n) l ≡ l
-quiet_other p q n l e = rw (e, and_false (not (is_transmit p))) refl
+quiet_other p q n l e = rw (e, and-false (not (is_transmit p))) refl
 
 pub quiet_begins : (p q : Phase) (n : ℕ) (l : Trace) → is_transmit p ≡ false → is_transmit q ≡ true → transmitted p q (number n) l ≡ sending l 0 []
 quiet_begins p q n l e f = rw (e, f) refl
@@ -124,14 +124,14 @@ carried_same {unit} {C} {s} {t} {store} {l} n e k f =
       steady = same e;
     })
 
-idle_not : {q : Phase} → q ≡ Idle NoResponse → is_transmit q ≡ false
+idle_not : {q : Phase} → q ≡ Idle None → is_transmit q ≡ false
 idle_not e = rw e refl
 
-idle_process : {A : Type 0} {q : Phase} → q ≡ Idle NoResponse → is_process q ≡ true → A
+idle_process : {A : Type 0} {q : Phase} → q ≡ Idle None → is_process q ≡ true → A
 idle_process e h = false_true (rw e at h)
 
 -- the store may have changed
-carried_idle : {unit : ℕ} {C : Type 0} {s t : Slot} (store : List ℕ) {l : Trace} (n : ℕ) → t.phase ≡ Idle NoResponse → t.ticket ≡ s.ticket → s.ticket.0 ≡ l.entries % 2 ^ 32
+carried_idle : {unit : ℕ} {C : Type 0} {s t : Slot} (store : List ℕ) {l : Trace} (n : ℕ) → t.phase ≡ Idle None → t.ticket ≡ s.ticket → s.ticket.0 ≡ l.entries % 2 ^ 32
     → Steady C s.phase t.phase → Carried unit C s t store l (transmitted s.phase t.phase (number n) l)
 carried_idle {unit} {C} {s} {t} store {l} n e k f g =
     rw (quiet_other s.phase t.phase n l (idle_not e))
@@ -141,11 +141,11 @@ carried_idle {unit} {C} {s} {t} store {l} n e k f g =
       steady = g;
     })
 
-pub carried_ended : {unit : ℕ} {C : Type 0} {s t : Slot} (store : List ℕ) {l : Trace} (n : ℕ) → is_early s.phase ≡ true → t.phase ≡ Idle NoResponse → t.ticket ≡ s.ticket
+pub carried_ended : {unit : ℕ} {C : Type 0} {s t : Slot} (store : List ℕ) {l : Trace} (n : ℕ) → is_early s.phase ≡ true → t.phase ≡ Idle None → t.ticket ≡ s.ticket
     → s.ticket.0 ≡ l.entries % 2 ^ 32 → Carried unit C s t store l (transmitted s.phase t.phase (number n) l)
 carried_ended store n early e k f = carried_idle store n e k f (newly early (rw e refl))
 
-pub carried_cut : {unit : ℕ} {C : Type 0} {s t : Slot} (store : List ℕ) {l : Trace} (n : ℕ) → C → t.phase ≡ Idle NoResponse → t.ticket ≡ s.ticket
+pub carried_cut : {unit : ℕ} {C : Type 0} {s t : Slot} (store : List ℕ) {l : Trace} (n : ℕ) → C → t.phase ≡ Idle None → t.ticket ≡ s.ticket
     → s.ticket.0 ≡ l.entries % 2 ^ 32 → Carried unit C s t store l (transmitted s.phase t.phase (number n) l)
 carried_cut store n c e k f = carried_idle store n e k f (fell c e)
 
@@ -171,7 +171,7 @@ pub carried_released : {unit : ℕ} {C : Type 0} {s t : Slot} {store : List ℕ}
 carried_released n r a e k f = carried_begins n r (rw a refl) (rw a at f.phase_fits) e k f (released r a e)
 
 -- Replay: one that an Idle slot holds
-pub carried_replayed : {unit : ℕ} {C : Type 0} {s t : Slot} {store : List ℕ} {l : Trace} (n : ℕ) (r : Response) → s.phase ≡ Idle (Last r)
+pub carried_replayed : {unit : ℕ} {C : Type 0} {s t : Slot} {store : List ℕ} {l : Trace} (n : ℕ) (r : Response) → s.phase ≡ Idle (Some r)
     → t.phase ≡ Transmit (outgoing r 0) → t.ticket ≡ s.ticket → Fit unit s store l → Carried unit C s t store l (transmitted s.phase t.phase (number n) l)
 carried_replayed n r a e k f = carried_begins n r (rw a refl) (rw a at f.phase_fits) e k f (newly (rw a refl) (rw e refl))
 
@@ -186,14 +186,13 @@ response_is i request body h =
     let four : kind_of request % 16 ≡ kind_of request = mod-eq_of_lt (mod-lt (byte_at request 1 / 8) (zero-lt-suc 15)) in
     rw (one_bit i h, four) refl
 
-abbrev pub at_entry : ℕ → List ℕ → Fault → List ℕ
-at_entry i request NoFault = []
-at_entry i request (Parameter byte bit) = response_for i request (fault_body (Parameter byte bit))
-at_entry i request (Failure status) = response_for i request (fault_body (Failure status))
+abbrev pub at_entry : ℕ → List ℕ → Result (Unit {0}) Fault → List ℕ
+at_entry i request (Ok none) = []
+at_entry i request (Err fault) = response_for i request (fault_body (Err fault))
 
 by_tests : (i : ℕ) (request : List ℕ) (a b c : Bool)
     → (if a then response_for i request (4 ∷ 3 ∷ 1 ∷ 0 ∷ []) else if b then response_for i request (4 ∷ 0 ∷ 2 ∷ 0 ∷ []) else if c then response_for i request (5 ∷ 0 ∷ 0 ∷ 0 ∷ []) else [])
-    ≡ at_entry i request (if a then Parameter 1 3 else if b then Parameter 2 0 else if c then Failure 5 else NoFault)
+    ≡ at_entry i request (if a then Err (Parameter 1 3) else if b then Err (Parameter 2 0) else if c then Err InvalidSize else Ok tt)
 by_tests i request true b c = refl
 by_tests i request false true c = refl
 by_tests i request false false true = refl

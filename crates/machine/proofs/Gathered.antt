@@ -9,13 +9,13 @@ use lib.Dec.{eqb}
 use lib.ListN.{length, take}
 use lib.Seq.{length-take-le}
 use borrow.Author.Tests.{eq-eqb}
-use Rattle.std.specs.Prelude.{if◌then◌else◌}
-use Rattle.lent.proofs.Choice.{false_true, both_and}
+use Rattle.std.specs.Prelude.{Ok, if◌then◌else◌}
+use Rattle.std.proofs.lemmas.Bool.{and_from}
+use Rattle.lent.proofs.Choice.{false_true}
 use Rattle.mctp.specs.Header.{read_header, fields, payload_of}
 use Rattle.mctp.specs.Cut.{cut}
 use Rattle.mctp.specs.Gather.{join_refusal, Assembling, Gathered, nothing, refused as refuses, more, whole, joined, first, gather_read, gather}
 use Rattle.mctp.specs.declared.Header.{Header}
-use Rattle.mctp.specs.declared.Read.TheVariants.{Packet}
 use Rattle.mctp.proofs.Gathering.{gather_cut}
 use Rattle.machine.specs.Types.{Phase, Receive, Slot}
 use Rattle.machine.specs.State.{World, Outcome, outcome, slot_at, store_at, with_phase, on_slot}
@@ -30,7 +30,7 @@ use Rattle.machine.proofs.Receiving.{Origin, opens, goes_on, Joining, filled, gr
 use Rattle.machine.proofs.Places.{Which, this, that, which, slot_this}
 use Rattle.machine.proofs.Keeps.{store_at_lem}
 use Rattle.machine.proofs.Fits.{Fit}
-use Rattle.machine.proofs.Received.{Mid, for_that, phase_before, start_mid, ended_mid}
+use Rattle.machine.proofs.Carried.{Mid, for_that, phase_before, start_mid, ended_mid}
 use Rattle.machine.proofs.Histories.{Good, good_next, good_every, next_end}
 use Rattle.machine.proofs.Cases.{same_number}
 use Rattle.machine.proofs.Traces.{sent_cases}
@@ -38,7 +38,7 @@ use Rattle.machine.proofs.Traces.{sent_cases}
 -- ---- one packet, in `mctp`'s words
 
 -- with SOM it does not matter what was gathered before
-som_first : (unit : ℕ) (g : Gathered) (h : Header) (payload : List ℕ) → h.som ≡ true → gather_read unit 4224 g payload (Packet h) ≡ first unit h payload
+som_first : (unit : ℕ) (g : Gathered) (h : Header) (payload : List ℕ) → h.som ≡ true → gather_read unit 4224 g payload (Ok h) ≡ first unit h payload
 som_first unit nothing h payload e = rw e refl
 som_first unit (refuses n) h payload e = rw e refl
 som_first unit (more a) h payload e = rw e refl
@@ -46,10 +46,10 @@ som_first unit (whole m) h payload e = rw e refl
 
 -- without SOM a packet of the same source and tag that is not refused joins
 later_joins : (unit : ℕ) (h : Header) (payload : List ℕ) (a : Assembling) → h.som ≡ false → h.source ≡ a.source → h.tag ≡ a.tag
-    → join_refusal unit 4224 a.sequence (length a.bytes) h (length payload) ≡ 0 → gather_read unit 4224 (more a) payload (Packet h) ≡ joined h a.bytes payload
+    → join_refusal unit 4224 a.sequence (length a.bytes) h (length payload) ≡ 0 → gather_read unit 4224 (more a) payload (Ok h) ≡ joined h a.bytes payload
 later_joins unit h payload a som source tag none =
     by h.som (eqb h.source a.source && eqb h.tag a.tag) (eqb (join_refusal unit 4224 a.sequence (length a.bytes) h (length payload)) 0) som
-    (both_and (eqb h.source a.source) (eqb h.tag a.tag) (eq-eqb h.source a.source source) (eq-eqb h.tag a.tag tag)) (eq-eqb _ 0 none)
+    (and_from (eqb h.source a.source) (eqb h.tag a.tag) (eq-eqb h.source a.source source) (eq-eqb h.tag a.tag tag)) (eq-eqb _ 0 none)
   where
     by : (x y z : Bool) → x ≡ false → y ≡ true → z ≡ true
         → (if x then first unit h payload else if not y then refuses 21 else if not z then refuses (join_refusal unit 4224 a.sequence (length a.bytes) h (length payload))
@@ -69,7 +69,7 @@ module _ (w₀ : World) (p : List ℕ) (trace : ℕ → Trace) (s₀ : Sound w�
       → gather_read w₀.endpoint.unit 4224 (gathering_in (phase_at w₀ i) (trace i)) (payload_of p) (read_header w₀.endpoint.eid w₀.endpoint.unit true p) ≡ Joined p (request_with p (trace i))
   joins_it w i at j m = ap (gather_read w₀.endpoint.unit 4224 (gathering_in (phase_at w₀ i) (trace i)) (payload_of p)) j.read_so ∙ go j.origin
     where
-      go : {n : ℕ} → Origin w₀ p w i n → gather_read w₀.endpoint.unit 4224 (gathering_in (phase_at w₀ i) (trace i)) (payload_of p) (Packet (fields p)) ≡ Joined p (request_with p (trace i))
+      go : {n : ℕ} → Origin w₀ p w i n → gather_read w₀.endpoint.unit 4224 (gathering_in (phase_at w₀ i) (trace i)) (payload_of p) (Ok (fields p)) ≡ Joined p (request_with p (trace i))
       go (opens som e uncut _) =
           let text : request_with p (trace i) ≡ bytes_from4 p = rw som refl in
           som_first w₀.endpoint.unit (gathering_in (phase_at w₀ i) (trace i)) (fields p) (payload_of p) som ∙ rw uncut refl ∙ ap (Joined p) (sym text)
@@ -82,7 +82,7 @@ module _ (w₀ : World) (p : List ℕ) (trace : ℕ → Trace) (s₀ : Sound w�
           let text : request_with p (trace i) ≡ (trace i).request ++ bytes_from4 p = rw som refl in
           let joins : join_refusal w₀.endpoint.unit 4224 a.sequence (length (trace i).request) (fields p) (length (payload_of p)) ≡ 0 =
           ap (λ (n : ℕ). join_refusal w₀.endpoint.unit 4224 a.sequence n (fields p) (length (payload_of p))) size ∙ none in
-          ap (λ (x : Phase). gather_read w₀.endpoint.unit 4224 (gathering_in x (trace i)) (payload_of p) (Packet (fields p))) q
+          ap (λ (x : Phase). gather_read w₀.endpoint.unit 4224 (gathering_in x (trace i)) (payload_of p) (Ok (fields p))) q
           ∙ later_joins w₀.endpoint.unit (fields p) (payload_of p) (record { source = a.source; tag = a.tag; sequence = a.sequence; bytes = (trace i).request }) som (sym same.0) (sym same.1) joins
           ∙ ap (Joined p) (sym text)
 

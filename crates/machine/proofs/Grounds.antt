@@ -7,15 +7,15 @@ use mathlib.Core.List.{List, ◌++◌}
 use native.Mathlib.Omega.{arith}
 use lib.Dec.{eqb, ltb}
 use lib.ListN.{length, take}
-use Rattle.std.specs.Prelude.{if◌then◌else◌}
+use Rattle.std.specs.Prelude.{Ok, Err, None, Some, if◌then◌else◌}
 use Rattle.lent.specs.Bytes.{byte_at, is_set, put}
 use Rattle.mctp.specs.Header.{read_header, same, fields, payload_of}
 use Rattle.mctp.specs.Gather.{is_cut, join_refusal}
-use Rattle.mctp.specs.declared.Read.TheVariants.{Refused, Packet}
+use Rattle.mctp.proofs.Laws.{not_same_false}
 use Rattle.nvme_mi.specs.Check.{check_right}
 use Rattle.nvme_mi.specs.Message.{message_type, control, message_header}
 use Rattle.opening.specs.Opening.{opened, joined_in}
-use Rattle.opening.specs.declared.First.TheVariants.{Refused as Unopened, Control, Command}
+use Rattle.opening.specs.declared.First.TheVariants.{Control, Command}
 use Rattle.opening.specs.declared.Joined.TheVariants.{More, Wrong, Whole}
 use Rattle.machine.specs.State.{World, slot_at, store_at, with_store, with_endpoint, is_idle}
 use Rattle.machine.specs.Wire.{inward, store_size}
@@ -25,7 +25,7 @@ use Rattle.machine.specs.History.{has_som, source_of, message_tag_of, bytes_from
 use Rattle.machine.specs.Numbers.{right_sizes}
 use Rattle.machine.specs.Demands.{is_idle_now}
 use Rattle.machine.specs.Grounds.{has_eom, taken_in, phase_found, first_number, join_number, join_or, Grounds}
-use Rattle.machine.specs.Types.{Assembly, NoResponse, Phase, Idle, Receive, Process, Answered, Transmit, Slot, Nowhere, At}
+use Rattle.machine.specs.Types.{Assembly, Phase, Idle, Receive, Process, Answered, Transmit, Slot}
 use Rattle.machine.proofs.Slots.{facts_at}
 use Rattle.machine.proofs.Receiving.{csi_most, receives_gathers}
 use Rattle.machine.proofs.Keeps.{store_at_lem, sound_of}
@@ -68,7 +68,7 @@ module _ (w : World) (p : List ℕ) (v : Valid w.endpoint) where
       rw (slot_both (ended_slot (fields p).source (fields p).tag) w.endpoint i is, receives_gathers (source_of p) (message_tag_of p) (phase_at w i))
       (by (gathers (source_of p) (message_tag_of p) (phase_at w i)) (slot_at w.endpoint i))
     where
-      by : (b : Bool) (s : Slot) → is_idle (if b then record { ticket = s.ticket; paused = false; busy = s.busy; phase = Idle NoResponse } else s).phase ≡ is_idle_now (if b then Idle NoResponse else s.phase)
+      by : (b : Bool) (s : Slot) → is_idle (if b then record { ticket = s.ticket; paused = false; busy = s.busy; phase = Idle None } else s).phase ≡ is_idle_now (if b then Idle None else s.phase)
       by true s = refl
       by false s = sym (idle_now s.phase)
 
@@ -83,17 +83,13 @@ module _ (w : World) (p : List ℕ) (v : Valid w.endpoint) where
   first_number_lem : (first ended (fields p) m).answer ≡ first_number w p m
   unfolding first opened end_assembly
   first_number_lem =
-      rw (same_false (message_header m).ror)
+      rw (not_same_false (message_header m).ror)
       (by (not (eqb (byte_at m 0) message_type)) (is_cut (unit_of w) (fields p) (length m)) ((fields p).eom && ltb (length m) 8) (message_header m).ror (eqb (message_header m).nmimt control)
       (not (fields p).eom || not (eqb (length m) 12)) (not (check_right m)))
     where
-      same_false : (b : Bool) → not (same b false) ≡ b
-      same_false true = refl
-      same_false false = refl
-
       by : (a b c d e f g : Bool)
           → (first_by ended (fields p) m
-          (if a then Unopened 15 else if b then Unopened 16 else if c then Unopened 17 else if d then Unopened 15 else if not e then Command else if f then Unopened 18 else if g then Unopened 19 else Control)
+          (if a then Err 15 else if b then Err 16 else if c then Err 17 else if d then Err 15 else if not e then Ok Command else if f then Err 18 else if g then Err 19 else Ok Control)
           ).answer
           ≡ (if a then 15 else if b then 16 else if c then 17 else if d then 15 else if e then (if f then 18 else if g then 19 else 2)
           else if not (is_idle_now (phase_found w p (byte_at m 1 % 2))) then 20 else taken_in p m)
@@ -109,7 +105,7 @@ module _ (w : World) (p : List ℕ) (v : Valid w.endpoint) where
 -- ---- SOM 0
 
 module _ (w : World) (p : List ℕ) (v : Sound w) where
-  later_number : (i : ℕ) → i ≤ 1 → (a : Assembly) → phase_at w i ≡ Receive a → (later_by w (fields p) (payload_of p) (At i a)).answer ≡ join_number w p (payload_of p) i a
+  later_number : (i : ℕ) → i ≤ 1 → (a : Assembly) → phase_at w i ≡ Receive a → (later_by w (fields p) (payload_of p) (Some (i, a))).answer ≡ join_number w p (payload_of p) i a
   unfolding later_at join_refusal
   later_number i is a e =
       by (not (eqb (fields p).sequence ((a.sequence + 1) % 4))) (is_cut (unit_of w) (fields p) (length (payload_of p))) (ltb store_size (a.length + length (payload_of p)))
@@ -129,12 +125,12 @@ module _ (w : World) (p : List ℕ) (v : Sound w) where
   unfolding later holder
   joins_number = outer (phase_at w 0) refl
     where
-      inner : (q : Phase) → phase_at w 1 ≡ q → (later_by w (fields p) (payload_of p) (holder_in (source_of p) (message_tag_of p) 1 q Nowhere)).answer ≡ join_or w p 1 21
+      inner : (q : Phase) → phase_at w 1 ≡ q → (later_by w (fields p) (payload_of p) (holder_in (source_of p) (message_tag_of p) 1 q None)).answer ≡ join_or w p 1 21
       inner (Idle held) e = unfold refused in (rw e refl)
       inner (Receive a) e = rw e (go (is_from (source_of p) (message_tag_of p) a) refl)
         where
           go : (b : Bool) → is_from (source_of p) (message_tag_of p) a ≡ b
-              → (later_by w (fields p) (payload_of p) (if b then At 1 a else Nowhere)).answer ≡ (if b then join_number w p (payload_of p) 1 a else 21)
+              → (later_by w (fields p) (payload_of p) (if b then Some (1, a) else None)).answer ≡ (if b then join_number w p (payload_of p) 1 a else 21)
           go true f = later_number 1 (omega arith) a e
           go false f = unfold refused in refl
       inner (Process r) e = unfold refused in (rw e refl)
@@ -142,12 +138,12 @@ module _ (w : World) (p : List ℕ) (v : Sound w) where
       inner (Transmit r) e = unfold refused in (rw e refl)
 
       outer : (q : Phase) → phase_at w 0 ≡ q
-          → (later_by w (fields p) (payload_of p) (holder_in (source_of p) (message_tag_of p) 0 q (holder_in (source_of p) (message_tag_of p) 1 (phase_at w 1) Nowhere))).answer ≡ join_or w p 0 (join_or w p 1 21)
+          → (later_by w (fields p) (payload_of p) (holder_in (source_of p) (message_tag_of p) 0 q (holder_in (source_of p) (message_tag_of p) 1 (phase_at w 1) None))).answer ≡ join_or w p 0 (join_or w p 1 21)
       outer (Idle held) e = rw e (inner (phase_at w 1) refl)
       outer (Receive a) e = rw e (go (is_from (source_of p) (message_tag_of p) a) refl)
         where
           go : (b : Bool) → is_from (source_of p) (message_tag_of p) a ≡ b
-              → (later_by w (fields p) (payload_of p) (if b then At 0 a else holder_in (source_of p) (message_tag_of p) 1 (phase_at w 1) Nowhere)).answer
+              → (later_by w (fields p) (payload_of p) (if b then Some (0, a) else holder_in (source_of p) (message_tag_of p) 1 (phase_at w 1) None)).answer
               ≡ (if b then join_number w p (payload_of p) 0 a else join_or w p 1 21)
           go true f = later_number 0 (omega arith) a e
           go false f = inner (phase_at w 1) refl
@@ -165,7 +161,7 @@ grounds w p v = rw (wrong_sizes w) (stores (right_sizes w) refl)
     same_true true = refl
     same_true false = refl
 
-    read : right_sizes w ≡ true → (received_by w (payload_of p) (Packet (fields p))).answer ≡ (if has_som p then first_number w p (bytes_from4 p) else join_or w p 0 (join_or w p 1 21))
+    read : right_sizes w ≡ true → (received_by w (payload_of p) (Ok (fields p))).answer ≡ (if has_som p then first_number w p (bytes_from4 p) else join_or w p 0 (join_or w p 1 21))
     read right = go (has_som p)
       where
         go : (b : Bool) → (if b then first (with_endpoint w (end_assembly w.endpoint (fields p).source (fields p).tag)) (fields p) (payload_of p) else later w (fields p) (payload_of p)).answer
@@ -174,7 +170,7 @@ grounds w p v = rw (wrong_sizes w) (stores (right_sizes w) refl)
         go false = joins_number w p (sound_of w (wrong_sizes w ∙ rw right refl) v)
 
     header : right_sizes w ≡ true → (a b c d e : Bool)
-        → (received_by w (payload_of p) (if a then Refused 10 else if b then Refused 11 else if c then Refused 12 else if d then Refused 13 else if e then Refused 14 else Packet (fields p))).answer
+        → (received_by w (payload_of p) (if a then Err 10 else if b then Err 11 else if c then Err 12 else if d then Err 13 else if e then Err 14 else Ok (fields p))).answer
         ≡ (if a then 10 else if b then 11 else if c then 12 else if d then 13 else if e then 14 else if has_som p then first_number w p (bytes_from4 p) else join_or w p 0 (join_or w p 1 21))
     header right true b c d e = unfold refused in refl
     header right false true c d e = unfold refused in refl

@@ -9,18 +9,18 @@ use lib.Dec.{eqb}
 use lib.ListN.{length}
 use Rattle.lent.proofs.Choice.{if_ind, false_true}
 use Rattle.mctp.specs.Setup.{setup_refusal}
-use Rattle.machine.specs.State.{World, slot_at, store_at, fresh, ticket}
+use Rattle.machine.specs.State.{World, Done, slot_at, store_at, fresh, ticket}
 use Rattle.machine.specs.Wire.{store_size}
 use Rattle.machine.specs.Finish.{was_reset, was_set_up}
 use Rattle.machine.specs.Valid.{Sound}
 use Rattle.machine.specs.Calls.{Call, receive, take!, read, complete, declare, poll, timeout, reset, is_plain, Stepped, step, begin}
 use Rattle.machine.specs.History.{Trace, History, trace_after, next, run, start}
 use Rattle.machine.specs.Demands.{AlwaysSound}
-use Rattle.machine.specs.Types.{Slot, Done}
+use Rattle.machine.specs.Types.{Slot}
 use Rattle.machine.proofs.Places.{end_of, frame_end}
 use Rattle.machine.proofs.Keeps.{begin_valid, step_sound}
 use Rattle.machine.proofs.Fits.{Fit, Carried}
-use Rattle.machine.proofs.Received.{Carries, received_carries}
+use Rattle.machine.proofs.Carried.{Carries, received_carries}
 use Rattle.machine.proofs.Finished.{take_carries, read_carries, complete_carries, declare_carries, timeout_carries, reset_carried}
 use Rattle.machine.proofs.Polling.{PollCase, still, replies, sends, poll_case, PollKept, poll_kept}
 
@@ -68,7 +68,7 @@ kept_by c h g j js =
 -- NO CALL CHANGES THE EID OR THE UNIT
 poll_end : {w : World} {buffer : List ℕ} {s : Stepped} → PollCase w buffer s → end_of s.world.endpoint ≡ end_of w.endpoint
 poll_end (still n _) = refl
-poll_end (replies _ _) = refl
+poll_end (replies _ _ _) = refl
 poll_end (sends i r _ _) = refl
 
 pub next_end : (c : Call) (h : History) → Good h → end_of (next c h).world.endpoint ≡ end_of h.world.endpoint

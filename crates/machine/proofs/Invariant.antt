@@ -7,20 +7,22 @@ use mathlib.Core.List.{List, [], ◌∷◌}
 use lib.Dec.{eqb, leb}
 use lib.ListN.{length}
 use borrow.Author.Tests.{ltb-true, leb-true, eqb-true, lt-ltb, le-leb, eq-eqb, not-true}
-use Rattle.lent.proofs.Choice.{false_true, and_both, both_and}
+use Rattle.std.proofs.lemmas.Bool.{and_from, and_parts}
+use Rattle.lent.proofs.Choice.{false_true}
 use Rattle.mctp.specs.Setup.{least_unit, most_unit}
 use Rattle.nvme_mi.specs.Message.{smallest}
 use Rattle.machine.specs.State.{is_idle}
 use Rattle.machine.specs.Wire.{store_size}
 use Rattle.machine.specs.Poll.{other_slot}
-use Rattle.machine.specs.Valid.{smallest_response, between, phased, unpaused_idle, gathered_fits, packet_left, held_fits, message_fits, waits_paused, is_begun, begun_turn, all_of, clauses, valid_with, valid, Fits, HeldFacts, PhaseFacts, ValidSlots, two, Valid}
-use Rattle.machine.specs.Types.{Response, Held, NoResponse, Last, Phase, Idle, Receive, Process, Answered, Transmit, Slot, Endpoint}
+use Rattle.machine.specs.Valid.{smallest_response, between, phased, unpaused_idle, gathered_fits, packet_left, held_fits, message_fits, waits_paused, is_begun, begun_turn, all_of, clauses, valid_with, valid, Fits, HeldFacts, PhaseFacts, ValidSlots, two, Valid, reply_fits, ReplyFacts}
+use Rattle.machine.specs.Types.{Response, Phase, Idle, Receive, Process, Answered, Transmit, Slot, Reply, Endpoint}
+use Rattle.std.specs.Prelude.{Option, None, Some}
 
 pub between_bounds : (low high n : ℕ) → between low high n ≡ true → (low ≤ n) × (n ≤ high)
-between_bounds low high n h = let k = and_both (leb low n) (leb n high) h in (leb-true low n k.0, leb-true n high k.1)
+between_bounds low high n h = let k = and_parts (leb low n) (leb n high) h in (leb-true low n k.0, leb-true n high k.1)
 
 bounds_between : (low high n : ℕ) → low ≤ n → n ≤ high → between low high n ≡ true
-bounds_between low high n a b = both_and (leb low n) (leb n high) (le-leb low n a) (le-leb n high b)
+bounds_between low high n a b = and_from (leb low n) (leb n high) (le-leb low n a) (le-leb n high b)
 
 -- ---- one slot: five of the clauses speak of it alone
 
@@ -39,18 +41,26 @@ fits_between r h =
 between_fits : (r : Response) → Fits r → between smallest_response store_size r.length ≡ true
 between_fits r f = bounds_between smallest_response store_size r.length f.least f.most
 
-held_facts : (k : Held) → held_fits k ≡ true → HeldFacts k
-held_facts NoResponse h = tt
-held_facts (Last r) h = fits_between r h
+held_facts : (k : Option Response) → held_fits k ≡ true → HeldFacts k
+held_facts None h = tt
+held_facts (Some r) h = fits_between r h
 
-held_passes : (k : Held) → HeldFacts k → held_fits k ≡ true
-held_passes NoResponse f = refl
-held_passes (Last r) f = between_fits r f
+held_passes : (k : Option Response) → HeldFacts k → held_fits k ≡ true
+held_passes None f = refl
+held_passes (Some r) f = between_fits r f
+
+reply_facts : (r : Option Reply) → reply_fits r ≡ true → ReplyFacts r
+reply_facts None h = tt
+reply_facts (Some r) h = eqb-true (length r.message) 12 h
+
+reply_passes : (r : Option Reply) → ReplyFacts r → reply_fits r ≡ true
+reply_passes None f = refl
+reply_passes (Some r) f = eq-eqb (length r.message) 12 f
 
 to_facts : (unit : ℕ) (b : Bool) (p : Phase) → Passes unit b p → PhaseFacts unit b p
 to_facts unit b (Idle held) c = (not-true b c.idle, held_facts held c.fits)
 to_facts unit b (Receive a) c =
-    let k = and_both (between unit store_size a.length) (eqb (a.length % unit) 0) c.gathered in
+    let k = and_parts (between unit store_size a.length) (eqb (a.length % unit) 0) c.gathered in
     let f = between_bounds unit store_size a.length k.0 in
     (f.0, f.1, eqb-true (a.length % unit) 0 k.1)
 to_facts unit b (Process r) c = between_bounds smallest store_size r.length c.fits
@@ -63,7 +73,7 @@ of_facts unit b (Receive a) f =
     record {
       idle = refl;
       gathered =
-          both_and (between unit store_size a.length) (eqb (a.length % unit) 0) (bounds_between unit store_size a.length f.0 f.1)
+          and_from (between unit store_size a.length) (eqb (a.length % unit) 0) (bounds_between unit store_size a.length f.0 f.1)
           (eq-eqb (a.length % unit) 0 f.2);
       left = refl;
       fits = refl;
@@ -106,15 +116,15 @@ Each (b ∷ bs) = (b ≡ true) × Each bs
 
 pub each : (l : List Bool) → all_of l ≡ true → Each l
 each [] h = tt
-each (b ∷ bs) h = let k = and_both b (all_of bs) h in (k.0, each bs k.1)
+each (b ∷ bs) h = let k = and_parts b (all_of bs) h in (k.0, each bs k.1)
 
 all_hold : (l : List Bool) → Each l → all_of l ≡ true
 all_hold [] h = refl
-all_hold (b ∷ bs) h = both_and b (all_of bs) h.0 (all_hold bs h.1)
+all_hold (b ∷ bs) h = and_from b (all_of bs) h.0 (all_hold bs h.1)
 
 -- of two slots, a clause that speaks of each
 firsts : (f : Slot → Bool) (s t : Slot) → (f s && f t) ≡ true → (f s ≡ true) × (f t ≡ true)
-firsts f s t h = and_both (f s) (f t) h
+firsts f s t h = and_parts (f s) (f t) h
 
 valid_two : (e : Endpoint) (s t : Slot) → e.slots ≡ s ∷ t ∷ [] → Each (clauses e s t) → Valid e
 valid_two e s t slots_are h =
@@ -123,9 +133,9 @@ valid_two e s t slots_are h =
     let left = firsts (λ (x : Slot). packet_left e.unit x.phase) s t h.1.1.1.1.1.1.0 in
     let fits = firsts (λ (x : Slot). message_fits x.phase) s t h.1.1.1.1.1.1.1.0 in
     let waits = firsts waits_paused s t h.1.1.1.1.1.1.1.1.0 in
-    let turns = and_both (begun_turn e.turn 0 s.phase) (begun_turn e.turn 1 t.phase) h.1.1.1.1.1.1.1.1.1.0 in
-    let flags = and_both (eqb (e.flags % 2 ^ 4) 0 && eqb (e.flags / 2 ^ 13 % 2) 0) (eqb (e.flags / 2 ^ 15) 0) h.1.1.1.1.1.1.1.1.1.1.0 in
-    let low = and_both (eqb (e.flags % 2 ^ 4) 0) (eqb (e.flags / 2 ^ 13 % 2) 0) flags.0 in
+    let turns = and_parts (begun_turn e.turn 0 s.phase) (begun_turn e.turn 1 t.phase) h.1.1.1.1.1.1.1.1.1.0 in
+    let flags = and_parts (eqb (e.flags % 2 ^ 4) 0 && eqb (e.flags / 2 ^ 13 % 2) 0) (eqb (e.flags / 2 ^ 15) 0) h.1.1.1.1.1.1.1.1.1.1.0 in
+    let low = and_parts (eqb (e.flags % 2 ^ 4) 0) (eqb (e.flags / 2 ^ 13 % 2) 0) flags.0 in
     let eid = between_bounds 8 254 e.eid h.0 in
     let units = between_bounds least_unit most_unit e.unit h.1.0 in
     record {
@@ -148,7 +158,7 @@ valid_two e s t slots_are h =
             thirteen = eqb-true (e.flags / 2 ^ 13 % 2) 0 low.1;
             top = eqb-true (e.flags / 2 ^ 15) 0 flags.1;
           };
-      reply_twelve = eqb-true (length e.reply) 12 h.1.1.1.1.1.1.1.1.1.1.1.0;
+      reply_twelve = reply_facts e.reply h.1.1.1.1.1.1.1.1.1.1.1.0;
     }
 
 -- a state that passes the test has the facts
@@ -181,23 +191,23 @@ facts_valid e v = go e.slots v.slots_valid
             (
               le-leb e.turn 1 v.numbers.turn_most,
               (
-                both_and (unpaused_idle s) (unpaused_idle t) ps.idle pt.idle,
+                and_from (unpaused_idle s) (unpaused_idle t) ps.idle pt.idle,
                 (
-                  both_and (gathered_fits e.unit s.phase) (gathered_fits e.unit t.phase) ps.gathered pt.gathered,
+                  and_from (gathered_fits e.unit s.phase) (gathered_fits e.unit t.phase) ps.gathered pt.gathered,
                   (
                     k,
                     (
-                      both_and (packet_left e.unit s.phase) (packet_left e.unit t.phase) ps.left pt.left,
+                      and_from (packet_left e.unit s.phase) (packet_left e.unit t.phase) ps.left pt.left,
                       (
-                        both_and (message_fits s.phase) (message_fits t.phase) ps.fits pt.fits,
+                        and_from (message_fits s.phase) (message_fits t.phase) ps.fits pt.fits,
                         (
-                          both_and (waits_paused s) (waits_paused t) ps.waits pt.waits,
+                          and_from (waits_paused s) (waits_paused t) ps.waits pt.waits,
                           (
-                            both_and (begun_turn e.turn 0 s.phase) (begun_turn e.turn 1 t.phase) turn_s turn_t,
+                            and_from (begun_turn e.turn 0 s.phase) (begun_turn e.turn 1 t.phase) turn_s turn_t,
                             (
                               rw (f.low, f.thirteen, f.top) refl,
                               (
-                                eq-eqb (length e.reply) 12 v.reply_twelve,
+                                reply_passes e.reply v.reply_twelve,
                                 tt,
                               ),
                             ),

@@ -1,7 +1,7 @@
 -- Setup's state has the invariant, and every call's definition keeps it, whatever the call is given.
 -- Assumes nothing.
 use Prim.Native.Nat.{ℕ, zero, suc, ◌+◌, ◌*◌, ◌/◌, ◌%◌, ◌^◌, ◌≤◌, ◌<◌}
-use mathlib.Core.Path.{◌≡◌, refl, sym, ◌∙◌}
+use mathlib.Core.Path.{◌≡◌, refl, sym, ap, ◌∙◌}
 use mathlib.Core.Bool.{Bool, true, false, not, ◌||◌}
 use mathlib.Core.List.{List, [], ◌∷◌}
 use native.Mathlib.Nat.{mul-zero}
@@ -10,32 +10,32 @@ use lib.Bits.{bit_or, or_mod, or_shr}
 use lib.Dec.{eqb, ltb}
 use lib.ListN.{length, get_or, set}
 use borrow.Author.Tests.{ltb-false, ltb-true, eqb-true, eqb-false, not-true, not-false}
-use Rattle.std.specs.Prelude.{if◌then◌else◌}
+use Rattle.std.specs.Prelude.{Ok, Err, Option, None, Some, Result, if◌then◌else◌}
 use Rattle.lent.specs.Bytes.{put}
-use Rattle.lent.proofs.Choice.{if_ind, if_second, or_left, or_right, false_true, differ}
+use Rattle.std.proofs.lemmas.Bool.{not_from_false, or_parts}
+use Rattle.lent.proofs.Choice.{if_ind, if_second, false_true, differ}
 use Rattle.lent.proofs.Stores.{length_put}
 use Rattle.mctp.specs.Header.{fields, payload_of}
 use Rattle.mctp.specs.declared.Header.{Header}
 use Rattle.mctp.specs.Cut.{packets}
 use Rattle.mctp.specs.Setup.{first_eid, least_unit, setup_refusal}
-use Rattle.mctp.proofs.Laws.{SetUpSo, set_up_so, first_so, packets_bounds}
+use Rattle.mctp.proofs.Laws.{SetUpSo, set_up_so, packets_bounds}
 use Rattle.nvme_mi.specs.Message.{control, message_header, command_fault, control_fault, smallest}
 use Rattle.nvme_mi.specs.Response.{response, fault_body}
-use Rattle.nvme_mi.proofs.Laws.{length_response}
+use Rattle.nvme_mi.proofs.Laws.{length_response, fault_body_length}
 use Rattle.nvme_mi.specs.declared.MessageHeader.{MessageHeader}
 use Rattle.nvme_mi.specs.declared.Fault.{Fault}
-use Rattle.nvme_mi.specs.declared.Fault.TheVariants.{NoFault, Parameter, Failure}
-use Rattle.machine.specs.State.{World, Outcome, slot_at, store_at, with_slot, with_slots, with_flags, with_reply, with_store, with_endpoint, with_phase, with_busy, idled, held_in, is_idle, fresh, ticket, outgoing, settled}
+use Rattle.machine.specs.State.{World, Outcome, Done, slot_at, store_at, with_slot, with_slots, with_flags, with_reply, with_store, with_endpoint, with_phase, with_busy, idled, held_in, is_idle, fresh, ticket, outgoing, settled}
 use Rattle.machine.specs.Wire.{store_size, response_place, packet_room, wrong_stores, opcode_of, no_parameter, clears_flags}
-use Rattle.machine.specs.Control.{paused_slot, pause, resumed_slot, released, resume, abort, clear_flags, replayed, replay, primitive, replied, controlled_by, controlled}
+use Rattle.machine.specs.Control.{Acted, paused_slot, pause, resumed_slot, released, resume, abort, clear_flags, replayed, replay, primitive, replied, controlled_by, controlled}
 use Rattle.machine.specs.Process.{request, processing, response_to, responded, responded_at_once, entered}
 use Rattle.machine.specs.Receive.{refused, refused_busy, raised, flag_of, dropped, gathers, ended_slot, end_assembly, received}
-use Rattle.machine.specs.Finish.{is_slot, with_mark, taken, is_body, completed_by, completed, declared_by, was_declared, is_receive, timed_out, started, was_reset, initial, was_set_up}
+use Rattle.machine.specs.Finish.{TakeDone, is_slot, with_mark, taken, is_body, completed_by, completed, declared_by, was_declared, is_receive, timed_out, started, was_reset, initial, was_set_up}
 use Rattle.machine.specs.Poll.{Polled, other_slot, sending_or, has_begun, begun_or, chosen, any_paused, ready, reply_first, is_last, advanced, after_packet, sent_control, sent_command, polled_by, polled}
 use Rattle.machine.specs.Valid.{phased, apart, is_begun, Fits, PhaseFacts, ValidSlot, ValidSlots, two, ValidFlags, ValidNumbers, Valid, Sound}
 use Rattle.machine.specs.Calls.{Call, receive, take!, read, complete, declare, poll, timeout, reset, step, begin}
-use Rattle.machine.specs.Types.{Ticket, Assembly, Request, Response, Outgoing, Held, NoResponse, Last, Phase, Idle, Receive, Process, Answered, Transmit, Slot, Endpoint, Done, TakeDone, Presented, Ready, Nothing, From, Acted}
-use Rattle.machine.proofs.Slots.{held_idle, other_most, slot_facts, facts_at, apart_left, apart_new_left, apart_new_right}
+use Rattle.machine.specs.Types.{Ticket, Assembly, Request, Response, Outgoing, Phase, Idle, Receive, Process, Answered, Transmit, Slot, Reply, Endpoint}
+use Rattle.machine.proofs.Slots.{held_idle, same_found, other_most, slot_facts, facts_at, apart_left, apart_new_left, apart_new_right}
 use Rattle.machine.proofs.Cases.{slot_most, take_cases, ticket_cases}
 use Rattle.machine.proofs.Receiving.{Units, Joining, filled, grown, Walk, csi_most, walked}
 
@@ -91,7 +91,7 @@ with_flags_lem v f =
       reply_twelve = v.reply_twelve;
     }
 
-with_reply_lem : {e : Endpoint} {reply : List ℕ} (to tag : ℕ) → Valid e → length reply ≡ 12 → Valid (with_reply e reply to tag)
+with_reply_lem : {e : Endpoint} {message : List ℕ} (to tag : ℕ) → Valid e → length message ≡ 12 → Valid (with_reply e message to tag)
 with_reply_lem to tag v n =
     record {
       numbers = v.numbers;
@@ -183,13 +183,10 @@ pub record Calmer (p q : Phase) : Type 0 where
   pub was : (b : Assembly) → q ≡ Receive b → p ≡ Receive b
   pub begun : is_begun q ≡ true → is_begun p ≡ true
 
-not_false_is : (b : Bool) → b ≡ false → not b ≡ true
-not_false_is b e = rw e refl
-
 calmer_apart : (p p' q q' : Phase) → Calmer p p' → Calmer q q' → apart p q ≡ true → apart p' q' ≡ true
 calmer_apart p p' q (Idle held) c d h = refl
 calmer_apart p p' q (Receive b) c d h =
-    not_false_is (gathers b.source b.tag p') (c.fewer b.source b.tag (not-true (gathers b.source b.tag p) (rw (d.was b refl) at h)))
+    not_from_false (gathers b.source b.tag p') (c.fewer b.source b.tag (not-true (gathers b.source b.tag p) (rw (d.was b refl) at h)))
 calmer_apart p p' q (Process r) c d h = refl
 calmer_apart p p' q (Answered r) c d h = refl
 calmer_apart p p' q (Transmit r) c d h = refl
@@ -207,7 +204,7 @@ on_both_valid f facts calm (two {s} {t} vs vt k) =
 same_calm : (p : Phase) → Calmer p p
 same_calm p = record { fewer = λ s t h. h; was = λ b h. h; begun = λ h. h }
 
-idle_calm : (p : Phase) → Calmer p (Idle NoResponse)
+idle_calm : (p : Phase) → Calmer p (Idle None)
 idle_calm p = record { fewer = λ s t h. refl; was = λ b h. cc; begun = λ h. cc }
 
 -- Pause
@@ -304,10 +301,9 @@ responded_sound {w} i r body is lo hi s =
     sound_endpoint (sound_store i _ s (put_store i response_place (response r.kind i body) room s))
     (kept_quiet i is s.state (with_phase (slot_at w.endpoint i) (settled (slot_at w.endpoint i).paused (response_to r body))) k.0 k.1)
 
-at_once_sound : {w : World} (i : ℕ) (r : Request) (f : Fault) → i ≤ 1 → Sound w → Sound (responded_at_once w i r f)
-at_once_sound i r NoFault is s = s
-at_once_sound i r (Parameter byte bit) is s = responded_sound i r (fault_body (Parameter byte bit)) is (omega arith) (omega arith) s
-at_once_sound i r (Failure status) is s = responded_sound i r (fault_body (Failure status)) is (omega arith) (omega arith) s
+at_once_sound : {w : World} (i : ℕ) (r : Request) (f : Result (Unit {0}) Fault) → i ≤ 1 → Sound w → Sound (responded_at_once w i r f)
+at_once_sound i r (Ok none) is s = s
+at_once_sound i r (Err fault) is s = responded_sound i r (fault_body (Err fault)) is (omega (arith, fault_body_length (Err fault))) (omega (arith, fault_body_length (Err fault))) s
 
 pub entered_sound : {w : World} (i : ℕ) (a : Assembly) (mh : MessageHeader) → i ≤ 1 → smallest ≤ a.length → a.length ≤ store_size → Sound w → Sound (entered w i a mh)
 unfolding entered
@@ -331,10 +327,10 @@ replay_valid : {e : Endpoint} (i : ℕ) → i ≤ 1 → Valid e → StillValid (
 unfolding replay
 replay_valid {e} i h v = go (held_in (slot_at e i).phase) refl
   where
-    go : (k : Held) → held_in (slot_at e i).phase ≡ k → StillValid (replayed e i k)
-    go NoResponse q = v
-    go (Last r) q =
-        let f : PhaseFacts e.unit (slot_at e i).paused (Idle (Last r)) = rw (held_idle (slot_at e i).phase r q) at (facts_at i h v) in
+    go : (k : Option Response) → held_in (slot_at e i).phase ≡ k → StillValid (replayed e i k)
+    go None q = v
+    go (Some r) q =
+        let f : PhaseFacts e.unit (slot_at e i).paused (Idle (Some r)) = rw (held_idle (slot_at e i).phase r q) at (facts_at i h v) in
         kept_quiet i h v (with_phase (slot_at e i) (Transmit (outgoing r 0))) (none_went e.unit r f.1, f.1) refl
 
 pub primitive_valid : {e : Endpoint} (opcode i : ℕ) (clear : Bool) → i ≤ 1 → Valid e → Valid (primitive e opcode i clear).endpoint
@@ -354,10 +350,9 @@ pub controlled_valid : {e : Endpoint} (h : Header) (mh : MessageHeader) (m : Lis
 unfolding controlled
 controlled_valid {e} h mh m is v = go (control_fault mh (opcode_of m) (no_parameter m))
   where
-    go : (f : Fault) → Valid (controlled_by e h mh.csi m f)
-    go NoFault = replied_valid h mh.csi _ refl (primitive_valid (opcode_of m) mh.csi (clears_flags m) is v)
-    go (Parameter byte bit) = replied_valid h mh.csi (fault_body (Parameter byte bit)) refl v
-    go (Failure status) = replied_valid h mh.csi (fault_body (Failure status)) refl v
+    go : (f : Result (Unit {0}) Fault) → Valid (controlled_by e h mh.csi m f)
+    go (Ok none) = replied_valid h mh.csi _ refl (primitive_valid (opcode_of m) mh.csi (clears_flags m) is v)
+    go (Err fault) = replied_valid h mh.csi (fault_body (Err fault)) (fault_body_length (Err fault)) v
 
 -- ---- receiving
 
@@ -401,7 +396,7 @@ pub sizes : (w : World) → wrong_stores w ≡ false → IsStore w.store0 × IsS
 sizes w h =
     let a = not (eqb (length w.store0) store_size) in
     let b = not (eqb (length w.store1) store_size) in
-    (eqb-true _ _ (not-false _ (or_left a b h)), eqb-true _ _ (not-false _ (or_right a b h)))
+    (eqb-true _ _ (not-false _ (or_parts a b h).0), eqb-true _ _ (not-false _ (or_parts a b h).1))
 
 pub sound_of : (w : World) → wrong_stores w ≡ false → Valid w.endpoint → Sound w
 sound_of w h v = let k = sizes w h in record { state = v; size0 = k.0; size1 = k.1 }
@@ -436,14 +431,14 @@ body_least body h =
     let a = ltb (length body) 4 in
     let b = ltb 4216 (length body) in
     let k : (a || b) ≡ false = not-true (a || b) (not-false (is_body body) h) in
-    (ltb-false (length body) 4 (or_left a b k), ltb-false 4216 (length body) (or_right a b k))
+    (ltb-false (length body) 4 (or_parts a b k).0, ltb-false 4216 (length body) (or_parts a b k).1)
 
 pub completed_sound : (w : World) (i : ℕ) (t : Ticket) (body : List ℕ) → Sound w → Sound (completed w i t body).world
 unfolding completed
 completed_sound w i t body s =
     if_ind After (wrong_stores w) (λ _. s)
     (λ _.
-    ticket_cases (λ (x : Presented). After (completed_by w i body x)) w.endpoint i t (λ _ _. s)
+    ticket_cases (λ (x : Result Request ℕ). After (completed_by w i body x)) w.endpoint i t (λ _ _. s)
     (λ m. if_ind After (not (is_body body)) (λ _. s) (λ h. let k = body_least body h in responded_sound i m.request body m.slot_is k.0 k.1 s)))
   where
     After : Outcome → Type 0
@@ -464,7 +459,7 @@ DoneLeft d = Valid d.endpoint
 pub declared_valid : (e : Endpoint) (i : ℕ) (t : Ticket) (can : Bool) → Valid e → DoneLeft (was_declared e i t can)
 unfolding was_declared
 declared_valid e i t can v =
-    ticket_cases (λ (x : Presented). DoneLeft (declared_by e i can x)) e i t (λ _ _. v) (λ k. marked_valid e i k.request can k.slot_is k.in_process v)
+    ticket_cases (λ (x : Result Request ℕ). DoneLeft (declared_by e i can x)) e i t (λ _ _. v) (λ k. marked_valid e i k.request can k.slot_is k.in_process v)
 
 pub timeout_valid : (e : Endpoint) (i : ℕ) → Valid e → DoneLeft (timed_out e i)
 unfolding timed_out
@@ -480,7 +475,7 @@ started_valid eid unit flags t u n f =
       numbers = n;
       slots_valid = two (fresh_valid 0 t) (fresh_valid 1 u) refl;
       flags_valid = f;
-      reply_twelve = refl;
+      reply_twelve = tt;
     }
   where
     fresh_valid : (i : ℕ) (t : Ticket) → ValidSlot unit 0 i (fresh t)
@@ -494,16 +489,23 @@ reset_valid e v =
     (record { eid_least = n.eid_least; eid_most = n.eid_most; unit_least = n.unit_least; unit_most = n.unit_most; turn_most = omega arith })
     (mask 14 refl refl refl)
 
+-- a new endpoint
+pub initial_valid : (eid unit : ℕ) → ValidNumbers eid unit 0 → Valid (initial eid unit)
+initial_valid eid unit n = started_valid eid unit 0 _ _ n zero_flags
+
+-- the EID and the unit that a setup does not refuse
+pub within_bounds : (eid unit : ℕ) → setup_refusal eid unit ≡ 0 → ValidNumbers eid unit 0
+within_bounds eid unit e = in_bounds eid unit (set_up_so eid unit e)
+  where
+    in_bounds : (eid unit : ℕ) → SetUpSo eid unit → ValidNumbers eid unit 0
+    in_bounds eid unit k =
+        record { eid_least = k.eid_least; eid_most = k.eid_most; unit_least = k.unit_least; unit_most = k.unit_most; turn_most = omega arith }
+
 pub setup_valid : (eid unit : ℕ) → DoneLeft (was_set_up eid unit)
 unfolding was_set_up
 setup_valid eid unit =
-    if_ind DoneLeft (eqb (setup_refusal eid unit) 0) (λ e. initial_valid eid unit (set_up_so eid unit (eqb-true (setup_refusal eid unit) 0 e)))
-    (λ _. initial_valid first_eid least_unit first_so)
-  where
-    initial_valid : (eid unit : ℕ) → SetUpSo eid unit → Valid (initial eid unit)
-    initial_valid eid unit k =
-        started_valid eid unit 0 _ _
-        (record { eid_least = k.eid_least; eid_most = k.eid_most; unit_least = k.unit_least; unit_most = k.unit_most; turn_most = omega arith }) zero_flags
+    if_ind DoneLeft (eqb (setup_refusal eid unit) 0) (λ e. initial_valid eid unit (within_bounds eid unit (eqb-true (setup_refusal eid unit) 0 e)))
+    (λ _. initial_valid first_eid least_unit (within_bounds first_eid least_unit refl))
 
 -- ---- polling
 
@@ -513,30 +515,30 @@ pub record Chosen (e : Endpoint) (i : ℕ) (r : Outgoing) : Type 0 where
   pub sends : (slot_at e i).phase ≡ Transmit r
   pub first_of_two : is_begun (slot_at e (other_slot i)).phase ≡ true → ⊥
 
-data Picked (k : ℕ) (p : Phase) (other : Ready) (i : ℕ) (r : Outgoing) : Type 0 where
+data Picked (k : ℕ) (p : Phase) (other : Option (ℕ × Outgoing)) (i : ℕ) (r : Outgoing) : Type 0 where
   here : k ≡ i → p ≡ Transmit r → Picked k p other i r
-  there : other ≡ From i r → Picked k p other i r
+  there : other ≡ Some (i, r) → Picked k p other i r
 
-sending_or_lem : (k : ℕ) (p : Phase) (other : Ready) {i : ℕ} {r : Outgoing} → sending_or k p other ≡ From i r → Picked k p other i r
+sending_or_lem : (k : ℕ) (p : Phase) (other : Option (ℕ × Outgoing)) {i : ℕ} {r : Outgoing} → sending_or k p other ≡ Some (i, r) → Picked k p other i r
 sending_or_lem k (Idle held) other e = there e
 sending_or_lem k (Receive a) other e = there e
 sending_or_lem k (Process q) other e = there e
 sending_or_lem k (Answered q) other e = there e
-sending_or_lem k (Transmit q) other e = here (cc) (cc)
+sending_or_lem k (Transmit q) other e = let same = same_found e in here same.0 (ap Transmit same.1)
 
-data Begun (k : ℕ) (p : Phase) (other : Ready) (i : ℕ) (r : Outgoing) : Type 0 where
+data Begun (k : ℕ) (p : Phase) (other : Option (ℕ × Outgoing)) (i : ℕ) (r : Outgoing) : Type 0 where
   here : k ≡ i → p ≡ Transmit r → is_begun p ≡ true → Begun k p other i r
-  there : other ≡ From i r → is_begun p ≡ false → Begun k p other i r
+  there : other ≡ Some (i, r) → is_begun p ≡ false → Begun k p other i r
 
-begun_or_lem : (k : ℕ) (p : Phase) (other : Ready) {i : ℕ} {r : Outgoing} → begun_or k p other ≡ From i r → Begun k p other i r
+begun_or_lem : (k : ℕ) (p : Phase) (other : Option (ℕ × Outgoing)) {i : ℕ} {r : Outgoing} → begun_or k p other ≡ Some (i, r) → Begun k p other i r
 begun_or_lem k (Idle held) other e = there e refl
 begun_or_lem k (Receive a) other e = there e refl
 begun_or_lem k (Process q) other e = there e refl
 begun_or_lem k (Answered q) other e = there e refl
 begun_or_lem k (Transmit q) other {i} {r} e = go (has_begun q) refl e
   where
-    go : (b : Bool) → has_begun q ≡ b → ◌≡◌ {A = Ready} (if b then From k q else other) (From i r) → Begun k (Transmit q) other i r
-    go true f g = here (cc) (cc) f
+    go : (b : Bool) → has_begun q ≡ b → ◌≡◌ {A = Option (ℕ × Outgoing)} (if b then Some (k, q) else other) (Some (i, r)) → Begun k (Transmit q) other i r
+    go true f g = let same = same_found g in here same.0 (ap Transmit same.1) f
     go false f g = there g f
 
 -- where neither response is begun
@@ -551,28 +553,28 @@ both_begun v a b =
     let zero' = (slot_facts 1 (omega arith) v.slots_valid).begun_goes_on b in
     omega (arith, one, zero')
 
-pub chosen_at : (e : Endpoint) → Valid e → {i : ℕ} {r : Outgoing} → chosen e ≡ From i r → Chosen e i r
+pub chosen_at : (e : Endpoint) → Valid e → {i : ℕ} {r : Outgoing} → chosen e ≡ Some (i, r) → Chosen e i r
 unfolding chosen
 chosen_at e v {i} {r} h = first (begun_or_lem 0 (slot_at e 0).phase (begun_or 1 (slot_at e 1).phase turns) h)
   where
     turn_is : ℕ
     turn_is = e.turn
 
-    turns : Ready
-    turns = sending_or e.turn (slot_at e e.turn).phase (sending_or (other_slot e.turn) (slot_at e (other_slot e.turn)).phase Nothing)
+    turns : Option (ℕ × Outgoing)
+    turns = sending_or e.turn (slot_at e e.turn).phase (sending_or (other_slot e.turn) (slot_at e (other_slot e.turn)).phase None)
 
     last : (k : ℕ) → k ≤ 1 → is_begun (slot_at e 0).phase ≡ false → is_begun (slot_at e 1).phase ≡ false → k ≡ i → (slot_at e k).phase ≡ Transmit r → Chosen e i r
     last k is a b e1 e2 = rw (sym e1) (record { slot_is = is; sends = e2; first_of_two = none_begun e a b k })
 
     fourth : is_begun (slot_at e 0).phase ≡ false → is_begun (slot_at e 1).phase ≡ false
-        → Picked (other_slot e.turn) (slot_at e (other_slot e.turn)).phase Nothing i r → Chosen e i r
+        → Picked (other_slot e.turn) (slot_at e (other_slot e.turn)).phase None i r → Chosen e i r
     fourth a b (here k p) = last (other_slot e.turn) (other_most e.turn) a b k p
     fourth a b (there n) = differ (cc n)
 
     third : is_begun (slot_at e 0).phase ≡ false → is_begun (slot_at e 1).phase ≡ false
-        → Picked e.turn (slot_at e e.turn).phase (sending_or (other_slot e.turn) (slot_at e (other_slot e.turn)).phase Nothing) i r → Chosen e i r
+        → Picked e.turn (slot_at e e.turn).phase (sending_or (other_slot e.turn) (slot_at e (other_slot e.turn)).phase None) i r → Chosen e i r
     third a b (here k p) = last e.turn v.numbers.turn_most a b k p
-    third a b (there n) = fourth a b (sending_or_lem (other_slot e.turn) (slot_at e (other_slot e.turn)).phase Nothing n)
+    third a b (there n) = fourth a b (sending_or_lem (other_slot e.turn) (slot_at e (other_slot e.turn)).phase None n)
 
     second : is_begun (slot_at e 0).phase ≡ false → Begun 1 (slot_at e 1).phase turns i r → Chosen e i r
     second a (here k p b) = rw (sym k) (record { slot_is = omega arith; sends = p; first_of_two = λ g. false_true (sym a ∙ g) })
@@ -582,7 +584,7 @@ chosen_at e v {i} {r} h = first (begun_or_lem 0 (slot_at e 0).phase (begun_or 1 
     first (here k p b) = rw (sym k) (record { slot_is = omega arith; sends = p; first_of_two = λ g. both_begun v b g })
     first (there n a) = second a (begun_or_lem 1 (slot_at e 1).phase turns n)
 
-pub ready_at : (e : Endpoint) → Valid e → {i : ℕ} {r : Outgoing} → ready e ≡ From i r → Chosen e i r
+pub ready_at : (e : Endpoint) → Valid e → {i : ℕ} {r : Outgoing} → ready e ≡ Some (i, r) → Chosen e i r
 unfolding ready
 ready_at e v h = chosen_at e v (if_second (any_paused e) (λ n. differ (cc n)) h).1
 
@@ -601,7 +603,7 @@ pub record Sending (unit : ℕ) (s : Slot) : Type 0 where
 
 after_packet_lem : (unit : ℕ) → 0 < unit → (s : Slot) (r : Outgoing) → PhaseFacts unit s.paused (Transmit r) → Sending unit (after_packet unit s r)
 after_packet_lem unit pos s r f =
-    if_ind (Sending unit) (is_last unit r) (λ _. record { facts = (refl, f.1); left = λ q. apart_left (Idle (Last r.response)) q (λ a b. refl); right = λ q. refl })
+    if_ind (Sending unit) (is_last unit r) (λ _. record { facts = (refl, f.1); left = λ q. apart_left (Idle (Some r.response)) q (λ a b. refl); right = λ q. refl })
     (λ h.
     record {
       facts = (more_left unit pos r f.0 h, record { least = f.1.least; most = f.1.most });
@@ -635,25 +637,27 @@ command_valid w i r buffer c v =
       reply_twelve = v.reply_twelve;
     }
 
-control_valid : (e : Endpoint) (buffer : List ℕ) → Valid e → PollLeft (sent_control e buffer)
+control_valid : (e : Endpoint) (r : Reply) (buffer : List ℕ) → Valid e → PollLeft (sent_control e r buffer)
 unfolding sent_control
-control_valid e buffer v =
+control_valid e r buffer v =
     record {
       numbers = v.numbers;
       slots_valid = v.slots_valid;
       flags_valid = v.flags_valid;
-      reply_twelve = v.reply_twelve;
+      reply_twelve = tt;
     }
 
 pub polled_valid : (w : World) (buffer : List ℕ) → Valid w.endpoint → PollLeft (polled w buffer)
 unfolding polled
 polled_valid w buffer v =
-    if_ind PollLeft (wrong_stores w) (λ _. v) (λ _. if_ind PollLeft (ltb (length buffer) (packet_room w.endpoint)) (λ _. v) (λ _. by (ready w.endpoint) refl))
+    if_ind PollLeft (wrong_stores w) (λ _. v) (λ _. if_ind PollLeft (ltb (length buffer) (packet_room w.endpoint)) (λ _. v) (λ _. by w.endpoint.reply (ready w.endpoint) refl))
   where
-    by : (x : Ready) → ready w.endpoint ≡ x → PollLeft (polled_by w buffer x)
-    by Nothing h = if_ind PollLeft w.endpoint.reply_waits (λ _. control_valid w.endpoint buffer v) (λ _. v)
-    by (From i r) h =
-        if_ind PollLeft (reply_first w.endpoint) (λ _. control_valid w.endpoint buffer v)
+    by : (reply : Option Reply) (x : Option (ℕ × Outgoing)) → ready w.endpoint ≡ x → PollLeft (polled_by w buffer reply x)
+    by None None h = v
+    by None (Some (i, r)) h = command_valid w i r buffer (ready_at w.endpoint v h) v
+    by (Some reply) None h = control_valid w.endpoint reply buffer v
+    by (Some reply) (Some (i, r)) h =
+        if_ind PollLeft (reply_first w.endpoint) (λ _. control_valid w.endpoint reply buffer v)
         (λ _. command_valid w i r buffer (ready_at w.endpoint v h) v)
 
 -- ---- THE LAWS: setup gives the invariant, and every call keeps it, whatever it is given. Stores of the right length keep it.

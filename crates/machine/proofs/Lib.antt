@@ -8,7 +8,7 @@ pub mod Places
 pub mod Touches
 pub mod Traces
 pub mod Fits
-pub mod Received
+pub mod Carried
 pub mod Finished
 pub mod Polling
 pub mod Histories

@@ -2,15 +2,16 @@
 -- Assumes nothing.
 use Prim.Native.Nat.{ℕ, zero, suc, ◌+◌, ◌^◌, ◌≤◌}
 use mathlib.Core.Path.{◌≡◌, refl, sym, ap, ◌∙◌}
-use mathlib.Core.Bool.{Bool, true, false, not, ◌&&◌, ◌||◌}
+use mathlib.Core.Bool.{Bool, true, false, not, ◌&&◌, ◌||◌, or-true}
 use mathlib.Core.List.{List, [], ◌∷◌, ◌++◌}
 use native.Mathlib.Omega.{arith}
 use lib.Dec.{eqb, ltb}
 use lib.ListN.{length, take, drop}
 use lib.Seq.{take-append_seam}
 use borrow.Author.Tests.{ltb-true, ltb-false, lt-ltb, le-ltb, eqb-true}
-use Rattle.lent.proofs.Choice.{differ}
-use Rattle.std.specs.Prelude.{if◌then◌else◌}
+use Rattle.lent.proofs.Choice.{if_ind, differ}
+use Rattle.std.specs.Prelude.{Option, None, Some, Result, Ok, Err, if◌then◌else◌}
+use Rattle.std.specs.Option.{is_some}
 use Rattle.mctp.specs.Setup.{setup_refusal, setup_number}
 use Rattle.mctp.proofs.Laws.{setup_numbers as so}
 use Rattle.machine.specs.State.{World, outcome, ended, slot_at, with_slot, idled}
@@ -23,8 +24,7 @@ use Rattle.machine.specs.Valid.{phased, Valid}
 use Rattle.machine.specs.Calls.{poll_event, step}
 use Rattle.machine.specs.History.{phase_at, paused_at, is_transmit, unit_of}
 use Rattle.machine.specs.Numbers.{is_taken, take_numbers, TakeNumbers, ticket_in, ticket_number, right_sizes, CompleteNumbers, DeclareNumbers, is_receiving, timeout_number, TimeoutNumbers, is_command_ready, poll_number, length_out, PollNumbers, SetUp, SetupNumbers}
-use Rattle.machine.specs.Types.{Ticket, Taking, Untaken, Taken, Request, Outgoing, Phase, Idle, Receive, Process, Answered, Transmit, Endpoint, Presented, Unmatched, Matched, Ready, Nothing, From}
-use Rattle.machine.specs.declared.PollAnswer.TheVariants.{Refused, Nothing as Silent, Packet}
+use Rattle.machine.specs.Types.{Ticket, Taking, Untaken, Taken, Request, Outgoing, Phase, Idle, Receive, Process, Answered, Transmit, Reply, Endpoint}
 use Rattle.machine.proofs.Cases.{unmatched_not, ticket_cases}
 use Rattle.machine.proofs.Keeps.{chosen_at}
 use Rattle.machine.proofs.Delivery.{chosen_some, sending_phase}
@@ -58,9 +58,9 @@ take_numbers_lem e i = by (is_slot i) refl
 
 -- ---- a ticket that is presented
 
-abbrev said : Presented → ℕ
-said (Unmatched n) = n
-said (Matched r) = 0
+abbrev said : Result Request ℕ → ℕ
+said (Err n) = n
+said (Ok r) = 0
 
 said_is : (e : Endpoint) (i : ℕ) (t : Ticket) → said (presented e i t) ≡ ticket_number e i t
 unfolding presented
@@ -75,13 +75,13 @@ said_is e i t = slots (is_slot i) refl
     into (Receive a) = refl
     into (Process r) = mine (is_present t (slot_at e i))
       where
-        mine : (b : Bool) → said (if not b then Unmatched 32 else presented_row r r.taking) ≡ (if not b then 32 else if not (is_taken r.taking) then 34 else 0)
+        mine : (b : Bool) → said (if not b then Err 32 else presented_row r r.taking) ≡ (if not b then 32 else if not (is_taken r.taking) then 34 else 0)
         mine true = row r r.taking
         mine false = refl
     into (Answered r) = refl
     into (Transmit r) = refl
 
-    slots : (b : Bool) → is_slot i ≡ b → said (if not b then Unmatched 30 else presented_in t (slot_at e i) (slot_at e i).phase) ≡ ticket_number e i t
+    slots : (b : Bool) → is_slot i ≡ b → said (if not b then Err 30 else presented_in t (slot_at e i) (slot_at e i).phase) ≡ ticket_number e i t
     slots true h = rw (slot_one i true h) (into (slot_at e i).phase)
     slots false h = rw (slot_one i false h) refl
 
@@ -102,7 +102,7 @@ complete_numbers w i t body = rw (wrong_sizes w, sym (said_is w.endpoint i t)) (
     size r true = refl
     size r false = refl
 
-    By : Presented → Type 0
+    By : Result Request ℕ → Type 0
     By x = (completed_by w i body x).answer ≡ (if not (eqb (said x) 0) then said x else if ltb (length body) 4 || ltb 4216 (length body) then 35 else 0)
 
     stores : (b : Bool) → (if b then outcome 40 w else completed_by w i body (presented w.endpoint i t)).answer
@@ -116,9 +116,9 @@ pub declare_numbers : DeclareNumbers
 unfolding was_declared
 declare_numbers e i t can = by (presented e i t) ∙ said_is e i t
   where
-    by : (x : Presented) → (declared_by e i can x).answer ≡ said x
-    by (Unmatched n) = refl
-    by (Matched r) = refl
+    by : (x : Result Request ℕ) → (declared_by e i can x).answer ≡ said x
+    by (Err n) = refl
+    by (Ok r) = refl
 
 -- ---- timeout
 
@@ -146,31 +146,27 @@ timeout_numbers e i = rw (receiving_is (slot_at e i).phase) (slots (is_slot i) r
 -- ---- polling
 
 -- a slot is in Transmit exactly where something is chosen
-sending_chosen : (w : World) → Valid w.endpoint → (is_transmit (phase_at w 0) || is_transmit (phase_at w 1)) ≡ true → chosen w.endpoint ≡ Nothing → ⊥
+sending_chosen : (w : World) → Valid w.endpoint → (is_transmit (phase_at w 0) || is_transmit (phase_at w 1)) ≡ true → chosen w.endpoint ≡ None → ⊥
 sending_chosen w v h = by (is_transmit (phase_at w 0)) refl h
   where
-    by : (x : Bool) → is_transmit (phase_at w 0) ≡ x → (x || is_transmit (phase_at w 1)) ≡ true → chosen w.endpoint ≡ Nothing → ⊥
+    by : (x : Bool) → is_transmit (phase_at w 0) ≡ x → (x || is_transmit (phase_at w 1)) ≡ true → chosen w.endpoint ≡ None → ⊥
     by true e _ = let k = sending_phase (phase_at w 0) e in chosen_some w.endpoint v 0 (omega arith) k.0 k.1
     by false e f = let k = sending_phase (phase_at w 1) f in chosen_some w.endpoint v 1 (omega arith) k.0 k.1
 
-chosen_sending : (w : World) → Valid w.endpoint → {i : ℕ} {r : Outgoing} → chosen w.endpoint ≡ From i r → (is_transmit (phase_at w 0) || is_transmit (phase_at w 1)) ≡ true
+chosen_sending : (w : World) → Valid w.endpoint → {i : ℕ} {r : Outgoing} → chosen w.endpoint ≡ Some (i, r) → (is_transmit (phase_at w 0) || is_transmit (phase_at w 1)) ≡ true
 chosen_sending w v {i} {r} e = let k = chosen_at w.endpoint v e in at i k.slot_is k.sends
   where
     at : (i : ℕ) → i ≤ 1 → phase_at w i ≡ Transmit r → (is_transmit (phase_at w 0) || is_transmit (phase_at w 1)) ≡ true
     at zero is q = rw q refl
-    at (suc zero) is q = rw q (either (is_transmit (phase_at w 0)))
-      where
-        either : (b : Bool) → (b || true) ≡ true
-        either true = refl
-        either false = refl
+    at (suc zero) is q = rw q (or-true (is_transmit (phase_at w 0)))
     at (suc (suc n)) is q = absurd (omega arith)
 
 -- what is ready, in the document's words
-ready_nothing : (w : World) → Valid w.endpoint → ready w.endpoint ≡ Nothing → is_command_ready w ≡ false
+ready_nothing : (w : World) → Valid w.endpoint → ready w.endpoint ≡ None → is_command_ready w ≡ false
 unfolding ready
 ready_nothing w v = by (paused_at w 0) (paused_at w 1) (is_transmit (phase_at w 0) || is_transmit (phase_at w 1)) (sending_chosen w v)
   where
-    by : (a b x : Bool) → (x ≡ true → chosen w.endpoint ≡ Nothing → ⊥) → ◌≡◌ {A = Ready} (if a || b then Nothing else chosen w.endpoint) Nothing → (x && (not a && not b)) ≡ false
+    by : (a b x : Bool) → (x ≡ true → chosen w.endpoint ≡ None → ⊥) → ◌≡◌ {A = Option (ℕ × Outgoing)} (if a || b then None else chosen w.endpoint) None → (x && (not a && not b)) ≡ false
     by true b true k e = refl
     by true b false k e = refl
     by false true true k e = refl
@@ -178,11 +174,11 @@ ready_nothing w v = by (paused_at w 0) (paused_at w 1) (is_transmit (phase_at w 
     by false false true k e = absurd (k refl e)
     by false false false k e = refl
 
-ready_some : (w : World) → Valid w.endpoint → {i : ℕ} {r : Outgoing} → ready w.endpoint ≡ From i r → is_command_ready w ≡ true
+ready_some : (w : World) → Valid w.endpoint → {i : ℕ} {r : Outgoing} → ready w.endpoint ≡ Some (i, r) → is_command_ready w ≡ true
 unfolding ready
 ready_some w v {i} {r} = by (paused_at w 0) (paused_at w 1) (is_transmit (phase_at w 0) || is_transmit (phase_at w 1)) (chosen_sending w v)
   where
-    by : (a b x : Bool) → (chosen w.endpoint ≡ From i r → x ≡ true) → ◌≡◌ {A = Ready} (if a || b then Nothing else chosen w.endpoint) (From i r) → (x && (not a && not b)) ≡ true
+    by : (a b x : Bool) → (chosen w.endpoint ≡ Some (i, r) → x ≡ true) → ◌≡◌ {A = Option (ℕ × Outgoing)} (if a || b then None else chosen w.endpoint) (Some (i, r)) → (x && (not a && not b)) ≡ true
     by true b x k e = differ (cc e)
     by false true x k e = differ (cc e)
     by false false x k e = rw (k e) refl
@@ -198,31 +194,28 @@ poll_numbers w buffer v = stores (eqb (length w.store0) 4224) refl (eqb (length 
     Says : ℕ → Polled → Type 0
     Says n p = poll_says p.answer ≡ (n, length_out (poll_event p.buffer p.answer))
 
-    goes : (bytes : List ℕ) (e : Endpoint) → poll_says (polled_to (Packet (length bytes)) e (bytes ++ drop (length bytes) buffer)).answer
+    goes : (bytes : List ℕ) (e : Endpoint) → poll_says (polled_to (Ok (Some (length bytes))) e (bytes ++ drop (length bytes) buffer)).answer
         ≡ (1, length (take (length bytes) (bytes ++ drop (length bytes) buffer)) ∷ [])
     goes bytes e = rw (sent_length bytes buffer) refl
 
-    by : (x : Ready) → ready w.endpoint ≡ x → Says (if w.endpoint.reply_waits || is_command_ready w then 1 else 0) (polled_by w buffer x)
-    by Nothing e = rw (ready_nothing w v e) (waiting w.endpoint.reply_waits refl)
-      where
-        waiting : (b : Bool) → w.endpoint.reply_waits ≡ b → Says (if b || false then 1 else 0) (if b then sent_control w.endpoint buffer else polled_to Silent w.endpoint buffer)
-        waiting true q = unfold sent_control in (goes (control_packet w.endpoint) w.endpoint)
-        waiting false q = refl
-    by (From i r) e = rw (ready_some w v e) (rw (either w.endpoint.reply_waits) (first (reply_first w.endpoint)))
-      where
-        either : (b : Bool) → (b || true) ≡ true
-        either true = refl
-        either false = refl
+    replies : (reply : Reply) → Says 1 (sent_control w.endpoint reply buffer)
+    replies reply = unfold sent_control in (goes (control_packet w.endpoint reply) w.endpoint)
 
-        first : (b : Bool) → Says 1 (if b then sent_control w.endpoint buffer else sent_command w i r buffer)
-        first true = unfold sent_control in (goes (control_packet w.endpoint) w.endpoint)
-        first false = unfold sent_command in (goes (command_packet w i r) w.endpoint)
+    commands : (i : ℕ) (r : Outgoing) → Says 1 (sent_command w i r buffer)
+    commands i r = unfold sent_command in (goes (command_packet w i r) w.endpoint)
+
+    by : (reply : Option Reply) (x : Option (ℕ × Outgoing)) → ready w.endpoint ≡ x
+        → Says (if is_some reply || is_command_ready w then 1 else 0) (polled_by w buffer reply x)
+    by None None e = rw (ready_nothing w v e) refl
+    by None (Some (i, r)) e = rw (ready_some w v e) (commands i r)
+    by (Some reply) None e = replies reply
+    by (Some reply) (Some (i, r)) e = if_ind (Says 1) (reply_first w.endpoint) (λ _. replies reply) (λ _. commands i r)
 
     room : (b : Bool) → ltb (length buffer) (unit_of w + 4) ≡ b
-        → Says (if b then 36 else if w.endpoint.reply_waits || is_command_ready w then 1 else 0)
-        (if b then polled_to (Refused 36) w.endpoint buffer else polled_by w buffer (ready w.endpoint))
+        → Says (if b then 36 else if is_some w.endpoint.reply || is_command_ready w then 1 else 0)
+        (if b then polled_to (Err 36) w.endpoint buffer else polled_by w buffer w.endpoint.reply (ready w.endpoint))
     room true e = refl
-    room false e = by (ready w.endpoint) refl
+    room false e = by w.endpoint.reply (ready w.endpoint) refl
 
     stores : (a : Bool) → eqb (length w.store0) 4224 ≡ a → (b : Bool) → eqb (length w.store1) 4224 ≡ b → Says (poll_number w buffer) (polled w buffer)
     stores true e true f = unfold polled in (rw (e, f) (room (ltb (length buffer) (unit_of w + 4)) refl))

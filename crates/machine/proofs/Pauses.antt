@@ -2,24 +2,23 @@
 -- Assumes nothing.
 use Prim.Native.Nat.{ℕ, zero, suc, ◌+◌, ◌≤◌}
 use mathlib.Core.Path.{◌≡◌, refl, sym, ap, ◌∙◌}
-use mathlib.Core.Bool.{Bool, true, false, not, ◌&&◌, ◌||◌}
+use mathlib.Core.Bool.{Bool, true, false, not, ◌&&◌, ◌||◌, or-false, and-false}
 use mathlib.Core.List.{List}
 use native.Mathlib.Omega.{arith}
 use lib.Dec.{eqb, ltb}
 use lib.ListN.{length}
 use borrow.Author.Tests.{ne_eqb, le-ltb, eqb-true}
-use Rattle.std.specs.Prelude.{if◌then◌else◌}
+use Rattle.std.specs.Prelude.{Result, Ok, Err, Option, None, Some, if◌then◌else◌}
 use Rattle.lent.specs.Bytes.{byte_at, is_set}
-use Rattle.lent.proofs.Choice.{if_ind, false_true, and_false}
+use Rattle.lent.proofs.Choice.{if_ind, false_true}
 use Rattle.mctp.specs.Header.{fields, payload_of}
 use Rattle.nvme_mi.specs.Check.{check_right}
 use Rattle.nvme_mi.specs.Message.{message_header, command_fault, control_fault, smallest}
 use Rattle.nvme_mi.specs.Response.{fault_body}
 use Rattle.nvme_mi.specs.declared.Fault.{Fault}
-use Rattle.nvme_mi.specs.declared.Fault.TheVariants.{NoFault, Parameter, Failure}
 use Rattle.machine.specs.State.{World, Outcome, outcome, slot, slot_at, store_at, with_slot, with_endpoint, on_slot, with_phase, with_paused, with_busy, idled, held_in, is_idle, outgoing, settled}
 use Rattle.machine.specs.Wire.{opcode_of, no_parameter, clears_flags}
-use Rattle.machine.specs.Control.{paused_slot, pause, abort, clear_flags, replayed, replay, primitive, controlled_by, controlled}
+use Rattle.machine.specs.Control.{Acted, paused_slot, pause, abort, clear_flags, replayed, replay, primitive, controlled_by, controlled}
 use Rattle.machine.specs.Process.{processing, response_to, responded, responded_at_once, paused_if, entered}
 use Rattle.machine.specs.Receive.{refused, refused_busy, dropped, gathers, ended_slot, end_assembly, received}
 use Rattle.machine.specs.Finish.{taken, completed, was_declared, timed_out, was_reset}
@@ -30,7 +29,7 @@ use Rattle.machine.specs.History.{Trace, History, has_som, source_of, message_ta
 use Rattle.machine.specs.Demands.{is_idle_now}
 use Rattle.machine.specs.Replies.{slot_found, acted_on}
 use Rattle.machine.specs.Pauses.{pauses, resumes, restarts, flag_after, FlagsMove}
-use Rattle.machine.specs.Types.{Response, Held, NoResponse, Last, Phase, Idle, Receive, Process, Answered, Transmit, Slot, Endpoint, Acted}
+use Rattle.machine.specs.Types.{Response, Phase, Idle, Receive, Process, Answered, Transmit, Slot, Endpoint}
 use Rattle.machine.proofs.Slots.{held_idle, held_not, facts_at, other_most}
 use Rattle.machine.proofs.Receiving.{Units, Joining, filled, grown, whole, Controls, Busy, Gathering, Ground, in_table, of_control, of_no_slot, Break, in_sequence, in_size, in_total, Walk, csi_most, receives_gathers, walked}
 use Rattle.machine.proofs.Primitives.{is_primitive_lem, acting}
@@ -38,7 +37,7 @@ use Rattle.machine.proofs.Keeps.{received_sound, chosen_at, step_sound}
 use Rattle.machine.proofs.Places.{Which, this, that, which, slot_this, slot_that, slot_both}
 use Rattle.machine.proofs.Touches.{Touched, alone, handed, fixed, ended as ended_by_timeout, Touches, take_touches, complete_touches, declare_touches, timeout_touches}
 use Rattle.machine.proofs.Fits.{Fit}
-use Rattle.machine.proofs.Received.{Mid, for_this, for_that, front, in_process, command, e₁, e₂, w₂, e₂_valid, this_at, that_at, start_mid, ended_mid}
+use Rattle.machine.proofs.Carried.{Mid, for_this, for_that, front, in_process, command, e₁, e₂, w₂, e₂_valid, this_at, that_at, start_mid, ended_mid}
 use Rattle.machine.proofs.Polling.{PollCase, still, replies, sends, poll_case}
 use Rattle.machine.proofs.Refusals.{idle_now}
 use Rattle.machine.proofs.Replies.{primitive_done, acts}
@@ -56,16 +55,12 @@ unless_idle unit s x f k = by s.phase refl f
     by (Answered r) e g = k (ap is_idle_now e)
     by (Transmit r) e g = k (ap is_idle_now e)
 
-idle_no : {A : Type 0} {p : Phase} → p ≡ Idle NoResponse → is_idle_now p ≡ false → A
+idle_no : {A : Type 0} {p : Phase} → p ≡ Idle None → is_idle_now p ≡ false → A
 idle_no e n = false_true (sym n ∙ ap is_idle_now e)
 
 and_true : (b : Bool) → (b && true) ≡ b
 and_true true = refl
 and_true false = refl
-
-or_false : (b : Bool) → (b || false) ≡ b
-or_false true = refl
-or_false false = refl
 
 -- ---- calls other than receiving: a slot that is not Idle then keeps its flag
 
@@ -100,7 +95,7 @@ poll_flagged w s buffer = by (poll_case w buffer s)
   where
     by : {x : Stepped} → PollCase w buffer x → Flagged w.endpoint x.world.endpoint
     by (still n _) = λ j js _. refl
-    by (replies _ _) = λ j js _. refl
+    by (replies _ _ _) = λ j js _. refl
     by (sends k q c _) =
         one_flagged w.endpoint s.state k (chosen_at w.endpoint s.state c).slot_is (after_packet w.endpoint.unit (slot_at w.endpoint k) q)
         (if_ind (λ (x : Slot). is_idle_now x.phase ≡ false → x.paused ≡ (slot_at w.endpoint k).paused) (is_last w.endpoint.unit q) (λ _ n. false_true (sym n)) (λ _ _. refl))
@@ -131,7 +126,7 @@ module _ (w₀ : World) (p : List ℕ) (trace : ℕ → Trace) (s₀ : Sound w�
   -- on the way a slot is as it was, or its assembly has ended
   data Way (j : ℕ) (s t : Slot) : Type 0 where
     kept : t ≡ s → ends j ≡ false → Way j s t
-    ended : t.phase ≡ Idle NoResponse → t.paused ≡ false → ends j ≡ true → Way j s t
+    ended : t.phase ≡ Idle None → t.paused ≡ false → ends j ≡ true → Way j s t
 
   record On (w : World) : Type 0 where
     mid : Mid w₀ p trace s₀ fits w
@@ -146,7 +141,7 @@ module _ (w₀ : World) (p : List ℕ) (trace : ℕ → Trace) (s₀ : Sound w�
 
   -- a slot whose assembly has ended stays so
   abbrev StaysIdle : Phase → Phase → Type 0
-  StaysIdle p q = p ≡ Idle NoResponse → q ≡ Idle NoResponse
+  StaysIdle p q = p ≡ Idle None → q ≡ Idle None
 
   -- a refusal, or a control primitive that moves no flag
   unmoved : (n : ℕ) → 2 ≤ n → (w : World) → On w → (j : ℕ) → j ≤ 1 → (t : Slot) → t.paused ≡ (slot_at w.endpoint j).paused → StaysIdle (phase_at w j) t.phase
@@ -163,7 +158,7 @@ module _ (w₀ : World) (p : List ℕ) (trace : ℕ → Trace) (s₀ : Sound w�
     where
       go : Way j (slot_at w₀.endpoint j) (slot_at w.endpoint j) → t.paused ≡ (paused_at w₀ j && not (ends j))
       go (kept e r) = rw r (a ∙ ap (λ (s : Slot). s.paused) e ∙ sym (and_true (paused_at w₀ j)))
-      go (ended i f r) = rw r (a ∙ f ∙ sym (and_false (paused_at w₀ j)))
+      go (ended i f r) = rw r (a ∙ f ∙ sym (and-false (paused_at w₀ j)))
 
   -- only slot i changes
   one_moves : (w : World) → On w → (i n : ℕ) → i ≤ 1 → 2 ≤ n → (s : Slot)
@@ -251,7 +246,7 @@ module _ (w₀ : World) (p : List ℕ) (trace : ℕ → Trace) (s₀ : Sound w�
       either i j.slot_is (message_header (whole w₀ p w i at)).ciap mine other
     where
       either : (i : ℕ) → i ≤ 1 → (b : Bool) → ciap_of i ≡ b → ciap_of (other_slot i) ≡ false → ciaps ≡ b
-      either zero is b x y = rw (x, y) (or_false b)
+      either zero is b x y = rw (x, y) (or-false b)
       either (suc zero) is b x y = rw (x, y) refl
       either (suc (suc n)) is b x y = absurd (omega arith)
 
@@ -299,14 +294,13 @@ module _ (w₀ : World) (p : List ℕ) (trace : ℕ → Trace) (s₀ : Sound w�
         by (that q) = rw (q, slot_that i j.slot_is v s) (paused_entry ciap (other_slot i) (other_most i))
 
     -- a response at once moves no flag
-    at_once_moves : (f : Fault) (k : ℕ) → k ≤ 1
+    at_once_moves : (f : Result (Unit {0}) Fault) (k : ℕ) → k ≤ 1
         → is_idle_now (phase_at (responded_at_once (w₂ w₀ p trace s₀ fits w i at j lo on.mid) i (command w₀ p trace s₀ fits w i at j lo on.mid) f) k) ≡ false
         → paused_at (responded_at_once (w₂ w₀ p trace s₀ fits w i at j lo on.mid) i (command w₀ p trace s₀ fits w i at j lo on.mid) f) k
         ≡ (if ciap then true else paused_at w₀ k && not (ends k))
     unfolding responded
-    at_once_moves NoFault k ks n = paused_entry ciap k ks n
-    at_once_moves (Parameter byte bit) k ks n = answered_moves k ks (response_to (command w₀ p trace s₀ fits w i at j lo on.mid) (fault_body (Parameter byte bit))) n
-    at_once_moves (Failure status) k ks n = answered_moves k ks (response_to (command w₀ p trace s₀ fits w i at j lo on.mid) (fault_body (Failure status))) n
+    at_once_moves (Ok none) k ks n = paused_entry ciap k ks n
+    at_once_moves (Err fault) k ks n = answered_moves k ks (response_to (command w₀ p trace s₀ fits w i at j lo on.mid) (fault_body (Err fault))) n
 
   enter : (w : World) (i at : ℕ) → Joining w₀ p w i at → smallest ≤ at + length (payload_of p) → check_right (whole w₀ p w i at) ≡ true → On w
       → Moves (outcome 1 (entered (filled w₀ p w i at) i (grown w₀ p at) (message_header (whole w₀ p w i at))))
@@ -322,10 +316,10 @@ module _ (w₀ : World) (p : List ℕ) (trace : ℕ → Trace) (s₀ : Sound w�
     unfolding replay
     replay_moves w on i is k ks = by (held_in (phase_at w i)) refl
       where
-        by : (x : Held) → held_in (phase_at w i) ≡ x → is_idle_now (slot_at (replayed w.endpoint i x).endpoint k).phase ≡ false
+        by : (x : Option Response) → held_in (phase_at w i) ≡ x → is_idle_now (slot_at (replayed w.endpoint i x).endpoint k).phase ≡ false
             → (slot_at (replayed w.endpoint i x).endpoint k).paused ≡ flag_by 2 k
-        by NoResponse e = unmoved 2 (omega arith) w on k ks (slot_at w.endpoint k) refl (λ q. q)
-        by (Last r) e = one_moves w on i 2 is (omega arith) (with_phase (slot_at w.endpoint i) (Transmit (outgoing r 0))) (λ _. (refl, λ q. held_not (sym q ∙ held_idle (phase_at w i) r e))) k ks
+        by None e = unmoved 2 (omega arith) w on k ks (slot_at w.endpoint k) refl (λ q. q)
+        by (Some r) e = one_moves w on i 2 is (omega arith) (with_phase (slot_at w.endpoint i) (Transmit (outgoing r 0))) (λ _. (refl, λ q. held_not (sym q ∙ held_idle (phase_at w i) r e))) k ks
 
     primitive_moves : (w : World) → On w → (opcode i : ℕ) (clear : Bool) → i ≤ 1 → (eqb opcode 0 ≡ true → ⊥) → (eqb opcode 1 ≡ true → ⊥)
         → (k : ℕ) → k ≤ 1 → is_idle_now (slot_at (primitive w.endpoint opcode i clear).endpoint k).phase ≡ false
@@ -352,19 +346,18 @@ module _ (w₀ : World) (p : List ℕ) (trace : ℕ → Trace) (s₀ : Sound w�
     unfolding controlled
     control w c on k ks = go (control_fault (message_header (payload_of p)) (opcode_of (payload_of p)) (no_parameter (payload_of p))) refl
       where
-        other : (n : ℕ) → is_primitive n w₀.endpoint.eid p ≡ false → control_fault (message_header (payload_of p)) (opcode_of (payload_of p)) (no_parameter (payload_of p)) ≡ NoFault
+        other : (n : ℕ) → is_primitive n w₀.endpoint.eid p ≡ false → control_fault (message_header (payload_of p)) (opcode_of (payload_of p)) (no_parameter (payload_of p)) ≡ Ok tt
             → eqb (opcode_of (payload_of p)) n ≡ true → ⊥
         other n absent f e =
             let q : opcode_of (payload_of p) ≡ n = eqb-true (opcode_of (payload_of p)) n e in
             false_true (sym absent ∙ sym (ap (λ (x : ℕ). is_primitive x w₀.endpoint.eid p) q) ∙ is_primitive_lem w₀ p c f)
 
-        go : (f : Fault) → control_fault (message_header (payload_of p)) (opcode_of (payload_of p)) (no_parameter (payload_of p)) ≡ f
+        go : (f : Result (Unit {0}) Fault) → control_fault (message_header (payload_of p)) (opcode_of (payload_of p)) (no_parameter (payload_of p)) ≡ f
             → is_idle_now (slot_at (controlled_by w.endpoint (fields p) (message_header (payload_of p)).csi (payload_of p) f) k).phase ≡ false
             → (slot_at (controlled_by w.endpoint (fields p) (message_header (payload_of p)).csi (payload_of p) f) k).paused ≡ flag_by 2 k
-        go NoFault e =
+        go (Ok none) e =
             primitive_moves w on (opcode_of (payload_of p)) (message_header (payload_of p)).csi (clears_flags (payload_of p)) (csi_most (payload_of p)) (other 0 no_pause e) (other 1 no_resume e) k ks
-        go (Parameter byte bit) e = unmoved 2 (omega arith) w on k ks (slot_at w.endpoint k) refl (λ q. q)
-        go (Failure status) e = unmoved 2 (omega arith) w on k ks (slot_at w.endpoint k) refl (λ q. q)
+        go (Err fault) e = unmoved 2 (omega arith) w on k ks (slot_at w.endpoint k) refl (λ q. q)
 
     the_walk : Walk w₀ p On Moves
     the_walk =

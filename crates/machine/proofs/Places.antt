@@ -28,9 +28,6 @@ framed e = record { eid = e.eid; unit = e.unit; turn = e.turn; last = e.last_con
 abbrev pub Frame : Endpoint → Endpoint → Type 0
 Frame e f = framed f ≡ framed e
 
-pub frame_eid : (e f : Endpoint) → Frame e f → f.eid ≡ e.eid
-frame_eid e f k = ap (λ (x : Framed). x.eid) k
-
 pub frame_unit : (e f : Endpoint) → Frame e f → f.unit ≡ e.unit
 frame_unit e f k = ap (λ (x : Framed). x.unit) k
 

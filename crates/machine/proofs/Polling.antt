@@ -2,15 +2,16 @@
 -- Assumes nothing.
 use Prim.Native.Nat.{ℕ, ◌+◌, ◌*◌, ◌≤◌}
 use mathlib.Core.Path.{◌≡◌, refl, sym, ap, ◌∙◌}
-use mathlib.Core.Bool.{Bool, true, false, not, ◌&&◌, ◌||◌}
+use mathlib.Core.Bool.{Bool, true, false, not, ◌&&◌, ◌||◌, not-and_self}
 use mathlib.Core.List.{List, ◌++◌}
 use native.Mathlib.Omega.{arith}
 use lib.Dec.{eqb, ltb}
 use lib.ListN.{length, take, drop}
 use lib.Seq.{take-append_seam}
 use borrow.Author.Tests.{eq-eqb, ne_eqb, ltb-true, ltb-false, leb-true, le-leb, not-true}
-use Rattle.std.specs.Prelude.{if◌then◌else◌}
-use Rattle.lent.proofs.Choice.{if_ind, if_second, false_true, and_both, differ, not_and}
+use Rattle.std.specs.Prelude.{Option, None, Some, if◌then◌else◌}
+use Rattle.std.proofs.lemmas.Bool.{and_parts}
+use Rattle.lent.proofs.Choice.{if_ind, if_second, false_true, differ}
 use Rattle.mctp.specs.Cut.{payload, packet}
 use Rattle.mctp.proofs.Laws.{payload_next}
 use Rattle.machine.specs.State.{World, slot_at, store_at, with_slot, with_endpoint, reply_sent, packet_sent}
@@ -20,7 +21,7 @@ use Rattle.machine.specs.Valid.{Valid, Sound}
 use Rattle.machine.specs.Calls.{poll, number, handed_out, Stepped, stepped, by_poll, step}
 use Rattle.machine.specs.History.{Trace, phase_at, paused_at, is_transmit, moved, sending, transmitted, trace_after, unit_of, has_room, counts}
 use Rattle.machine.specs.Demands.{is_process}
-use Rattle.machine.specs.Types.{Outgoing, Last, Phase, Idle, Receive, Process, Answered, Transmit, Slot, Ready, Nothing, From}
+use Rattle.machine.specs.Types.{Outgoing, Phase, Idle, Receive, Process, Answered, Transmit, Slot, Reply}
 use Rattle.machine.proofs.Slots.{other_most}
 use Rattle.machine.proofs.Receiving.{right_stores}
 use Rattle.machine.proofs.Keeps.{Chosen, chosen_at}
@@ -31,13 +32,13 @@ use Rattle.machine.proofs.Fits.{Going, FitP, Fit, Entry, stayed, quiet_same}
 
 pub data PollCase (w : World) (buffer : List ℕ) : Stepped → Type 0 where
   -- refused, or nothing to send
-  still : (n : ℕ) → (counts (poll buffer) w ≡ true → chosen w.endpoint ≡ Nothing) → PollCase w buffer (stepped (number n) w)
+  still : (n : ℕ) → (counts (poll buffer) w ≡ true → chosen w.endpoint ≡ None) → PollCase w buffer (stepped (number n) w)
   -- the control reply goes
-  replies : w.endpoint.reply_waits ≡ true
-      → (counts (poll buffer) w ≡ true → (chosen w.endpoint ≡ Nothing → ⊥) → w.endpoint.last_control ≡ false)
-      → PollCase w buffer (stepped (handed_out (control_packet w.endpoint)) (with_endpoint w (reply_sent w.endpoint)))
+  replies : (r : Reply) → w.endpoint.reply ≡ Some r
+      → (counts (poll buffer) w ≡ true → (chosen w.endpoint ≡ None → ⊥) → w.endpoint.last_control ≡ false)
+      → PollCase w buffer (stepped (handed_out (control_packet w.endpoint r)) (with_endpoint w (reply_sent w.endpoint)))
   -- a command packet goes
-  sends : (i : ℕ) (r : Outgoing) → chosen w.endpoint ≡ From i r → counts (poll buffer) w ≡ true
+  sends : (i : ℕ) (r : Outgoing) → chosen w.endpoint ≡ Some (i, r) → counts (poll buffer) w ≡ true
       → PollCase w buffer
       (stepped (handed_out (command_packet w i r)) (with_endpoint w (packet_sent (with_slot w.endpoint i (after_packet w.endpoint.unit (slot_at w.endpoint i) r)) (other_slot i))))
 
@@ -54,8 +55,8 @@ unfolding step polled
 poll_case w buffer s =
     rw (right_stores w s)
     (if_ind After (ltb (length buffer) (packet_room w.endpoint))
-    (λ short. still 36 (λ c. absurd (omega (arith, ltb-true (length buffer) (packet_room w.endpoint) short, leb-true (unit_of w + 4) (length buffer) (and_both (has_room w buffer) flags c).0))))
-    (λ room. by room (ready w.endpoint) refl))
+    (λ short. still 36 (λ c. absurd (omega (arith, ltb-true (length buffer) (packet_room w.endpoint) short, leb-true (unit_of w + 4) (length buffer) (and_parts (has_room w buffer) flags c).0))))
+    (λ room. by room w.endpoint.reply refl (ready w.endpoint) refl))
   where
     flags : Bool
     flags = not (paused_at w 0) && not (paused_at w 1)
@@ -64,40 +65,45 @@ poll_case w buffer s =
     After p = PollCase w buffer (by_poll w p)
 
     -- a counted poll finds what is chosen
-    unpaused : {x : Ready} → ready w.endpoint ≡ x → counts (poll buffer) w ≡ true → chosen w.endpoint ≡ x
+    unpaused : {x : Option (ℕ × Outgoing)} → ready w.endpoint ≡ x → counts (poll buffer) w ≡ true → chosen w.endpoint ≡ x
     unpaused e c =
-        let k = both_false (paused_at w 0) (paused_at w 1) (and_both (has_room w buffer) (not (paused_at w 0) && not (paused_at w 1)) c).1 in
+        let k = both_false (paused_at w 0) (paused_at w 1) (and_parts (has_room w buffer) (not (paused_at w 0) && not (paused_at w 1)) c).1 in
         unfold ready in (go (any_paused w.endpoint) refl k e)
       where
-        go : {x : Ready} (b : Bool) → any_paused w.endpoint ≡ b → (paused_at w 0 || paused_at w 1) ≡ false
-            → ◌≡◌ {A = Ready} (if b then Nothing else chosen w.endpoint) x → chosen w.endpoint ≡ x
+        go : {x : Option (ℕ × Outgoing)} (b : Bool) → any_paused w.endpoint ≡ b → (paused_at w 0 || paused_at w 1) ≡ false
+            → ◌≡◌ {A = Option (ℕ × Outgoing)} (if b then None else chosen w.endpoint) x → chosen w.endpoint ≡ x
         go true f k q = false_true (sym k ∙ f)
         go false f k q = q
 
-    nothing : {A : Type 0} {i : ℕ} {r : Outgoing} → Nothing ≡ From i r → A
+    nothing : {A : Type 0} {i : ℕ} {r : Outgoing} → ◌≡◌ {A = Option (ℕ × Outgoing)} None (Some (i, r)) → A
     nothing n = differ (cc n)
 
-    control_goes : w.endpoint.reply_waits ≡ true
-        → (counts (poll buffer) w ≡ true → (chosen w.endpoint ≡ Nothing → ⊥) → w.endpoint.last_control ≡ false) → After (sent_control w.endpoint buffer)
-    control_goes a b =
+    control_goes : (r : Reply) → w.endpoint.reply ≡ Some r
+        → (counts (poll buffer) w ≡ true → (chosen w.endpoint ≡ None → ⊥) → w.endpoint.last_control ≡ false) → After (sent_control w.endpoint r buffer)
+    control_goes r a b =
         unfold sent_control in
-        (rw (take-append_seam (control_packet w.endpoint) (drop (length (control_packet w.endpoint)) buffer)) (replies a b))
+        (rw (take-append_seam (control_packet w.endpoint r) (drop (length (control_packet w.endpoint r)) buffer)) (replies r a b))
 
-    found : {i : ℕ} {r : Outgoing} → ready w.endpoint ≡ From i r → ((paused_at w 0 || paused_at w 1) ≡ false) × (chosen w.endpoint ≡ From i r)
+    found : {i : ℕ} {r : Outgoing} → ready w.endpoint ≡ Some (i, r) → ((paused_at w 0 || paused_at w 1) ≡ false) × (chosen w.endpoint ≡ Some (i, r))
     found e = unfold ready in (if_second (any_paused w.endpoint) nothing e)
 
-    command_goes : (i : ℕ) (r : Outgoing) → chosen w.endpoint ≡ From i r → counts (poll buffer) w ≡ true → After (sent_command w i r buffer)
+    command_goes : (i : ℕ) (r : Outgoing) → chosen w.endpoint ≡ Some (i, r) → counts (poll buffer) w ≡ true → After (sent_command w i r buffer)
     command_goes i r e c =
         unfold sent_command in (rw (take-append_seam (command_packet w i r) (drop (length (command_packet w i r)) buffer)) (sends i r e c))
 
-    by : ltb (length buffer) (packet_room w.endpoint) ≡ false → (x : Ready) → ready w.endpoint ≡ x → After (polled_by w buffer x)
-    by room Nothing e =
-        if_ind After w.endpoint.reply_waits (λ a. control_goes a (λ c n. absurd (n (unpaused e c)))) (λ _. still 0 (unpaused e))
-    by room (From i r) e =
-        let k = found e in
-        if_ind After (reply_first w.endpoint)
-        (λ a. let b = and_both w.endpoint.reply_waits (not w.endpoint.last_control) a in control_goes b.0 (λ c n. not-true w.endpoint.last_control b.1))
-        (λ _. command_goes i r k.1 (rw (le-leb (unit_of w + 4) (length buffer) (ltb-false (length buffer) (packet_room w.endpoint) room), false_both (paused_at w 0) (paused_at w 1) k.0) refl))
+    goes_out : ltb (length buffer) (packet_room w.endpoint) ≡ false → (i : ℕ) (r : Outgoing) → ((paused_at w 0 || paused_at w 1) ≡ false) × (chosen w.endpoint ≡ Some (i, r))
+        → After (sent_command w i r buffer)
+    goes_out room i r k =
+        command_goes i r k.1
+        (rw (le-leb (unit_of w + 4) (length buffer) (ltb-false (length buffer) (packet_room w.endpoint) room), false_both (paused_at w 0) (paused_at w 1) k.0) refl)
+
+    by : ltb (length buffer) (packet_room w.endpoint) ≡ false → (reply : Option Reply) → w.endpoint.reply ≡ reply → (x : Option (ℕ × Outgoing)) → ready w.endpoint ≡ x
+        → After (polled_by w buffer reply x)
+    by room None a None e = still 0 (unpaused e)
+    by room None a (Some (i, r)) e = goes_out room i r (found e)
+    by room (Some reply) a None e = control_goes reply a (λ c n. absurd (n (unpaused e c)))
+    by room (Some reply) a (Some (i, r)) e =
+        if_ind After (reply_first w.endpoint) (λ b. control_goes reply a (λ c n. not-true w.endpoint.last_control b)) (λ _. goes_out room i r (found e))
 
 -- ---- what the trace gains of a packet
 
@@ -110,12 +116,12 @@ moved_same (Transmit r) = rw (eq-eqb r.sent r.sent refl) refl
 
 -- a slot that did not move
 pub unmoved : (p q : Phase) (bytes : List ℕ) (l : Trace) → q ≡ p → transmitted p q (handed_out bytes) l ≡ l
-unmoved p q bytes l e = rw (e, not_and (is_transmit p), moved_same p) refl
+unmoved p q bytes l e = rw (e, not-and_self (is_transmit p), moved_same p) refl
 
 -- the slot whose packet went
 -- a phase that slot i's packet leads to
 pub data Onward (r : Outgoing) : Phase → Type 0 where
-  done : Onward r (Idle (Last r.response))
+  done : Onward r (Idle (Some r.response))
   more : Onward r (Transmit (advanced r))
 
 pub onward : (unit : ℕ) (s : Slot) (r : Outgoing) → Onward r (after_packet unit s r).phase
@@ -189,7 +195,7 @@ module _ (w : World) (buffer : List ℕ) (trace : ℕ → Trace) (s₀ : Sound w
 
   kept_in : {s : Stepped} → PollCase w buffer s → (j : ℕ) → j ≤ 1 → KeptAt s j
   kept_in (still n _) j js = same_kept j js _ (quiet_same (phase_at w j) (phase_at w j) n (trace j) refl)
-  kept_in (replies _ _) j js = same_kept j js _ (unmoved (phase_at w j) (phase_at w j) (control_packet w.endpoint) (trace j) refl)
+  kept_in (replies r _ _) j js = same_kept j js _ (unmoved (phase_at w j) (phase_at w j) (control_packet w.endpoint r) (trace j) refl)
   kept_in (sends i r e _) j js = at (chosen_at w.endpoint s₀.state e)
     where
       at : Chosen w.endpoint i r

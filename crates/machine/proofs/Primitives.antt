@@ -1,5 +1,6 @@
 -- A control primitive by its bytes: what receiving tests is what the document says of them.
 -- Assumes nothing.
+use Rattle.std.specs.Prelude.{Ok}
 use Prim.Native.Nat.{ℕ}
 use mathlib.Core.Path.{◌≡◌, refl}
 use mathlib.Core.Bool.{Bool, true, false, not}
@@ -13,7 +14,6 @@ use Rattle.lent.proofs.Choice.{if_second, differ}
 use Rattle.mctp.specs.Header.{payload_of}
 use Rattle.nvme_mi.specs.Message.{message_header, control_fault}
 use Rattle.nvme_mi.specs.declared.MessageHeader.{MessageHeader}
-use Rattle.nvme_mi.specs.declared.Fault.TheVariants.{NoFault}
 use Rattle.machine.specs.State.{World}
 use Rattle.machine.specs.Wire.{opcode_of, no_parameter}
 use Rattle.machine.specs.History.{bytes_from4, is_control, is_primitive}
@@ -28,14 +28,14 @@ is_control_lem w p c =
     let n : length p ≡ 16 = omega (arith, rw (length-drop 4 p) at c.twelve) in
     rw (eq-eqb (length p) 16 n, r.version, r.ours, c.som, c.eom, r.direction, c.typed, c.request, c.kind, c.right) refl
 
-unfaulted : (h : MessageHeader) (opcode : ℕ) (none_given : Bool) → control_fault h opcode none_given ≡ NoFault → (h.meb ≡ false) × (h.ciap ≡ false)
+unfaulted : (h : MessageHeader) (opcode : ℕ) (none_given : Bool) → control_fault h opcode none_given ≡ Ok tt → (h.meb ≡ false) × (h.ciap ≡ false)
 unfolding control_fault
 unfaulted h opcode none_given e =
     let a = if_second h.meb (λ k. differ (cc k)) e in
     let b = if_second h.ciap (λ k. differ (cc k)) a.1 in
     (a.0, b.0)
 
-pub is_primitive_lem : (w : World) (p : List ℕ) → Controls w p → control_fault (message_header (payload_of p)) (opcode_of (payload_of p)) (no_parameter (payload_of p)) ≡ NoFault
+pub is_primitive_lem : (w : World) (p : List ℕ) → Controls w p → control_fault (message_header (payload_of p)) (opcode_of (payload_of p)) (no_parameter (payload_of p)) ≡ Ok tt
     → is_primitive (opcode_of (payload_of p)) w.endpoint.eid p ≡ true
 is_primitive_lem w p c f =
     let u = unfaulted (message_header (payload_of p)) (opcode_of (payload_of p)) (no_parameter (payload_of p)) f in

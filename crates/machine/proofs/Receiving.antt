@@ -10,12 +10,11 @@ use lib.Dec.{eqb, ltb}
 use lib.ListN.{length, take, length-drop}
 use borrow.Author.Tests.{ltb-false, eqb-true, not-true, not-false}
 use Rattle.lent.specs.Bytes.{byte_at, is_set, put}
-use Rattle.lent.proofs.Choice.{if_ind, if_second, or_left, or_right, false_true}
+use Rattle.std.proofs.lemmas.Bool.{or_parts}
+use Rattle.lent.proofs.Choice.{if_ind, if_second, false_true}
 use Rattle.mctp.specs.Header.{read_header, fields, same, payload_of}
 use Rattle.mctp.specs.Gather.{is_cut, join_refusal, no_assembly, not_full}
 use Rattle.mctp.specs.declared.Header.{Header}
-use Rattle.mctp.specs.declared.Read.{Read}
-use Rattle.mctp.specs.declared.Read.TheVariants.{Refused, Packet}
 use Rattle.mctp.proofs.Laws.{not_read, packet_sized, joins}
 use Rattle.nvme_mi.specs.Message.{message_type, control, message_header, smallest, control_size}
 use Rattle.nvme_mi.specs.Check.{check_right}
@@ -32,8 +31,9 @@ use Rattle.machine.specs.Poll.{other_slot}
 use Rattle.machine.specs.Valid.{Sound, PhaseFacts}
 use Rattle.machine.specs.History.{has_som, receives_from}
 use Rattle.machine.specs.Refusals.{is_command}
-use Rattle.machine.specs.Types.{Assembly, Phase, Idle, Receive, Process, Answered, Transmit, Holder, Nowhere, At}
+use Rattle.machine.specs.Types.{Assembly, Phase, Idle, Receive, Process, Answered, Transmit}
 use Rattle.machine.proofs.Slots.{is_early, idle_early, facts_at, alone_at, from_same, Holds, holder_at, holder_none, ended_at, other_most}
+use Rattle.std.specs.Prelude.{Result, Ok, Err, Option, None, Some}
 
 -- ---- what the tests say of a payload
 
@@ -60,15 +60,15 @@ pub record Sized (unit : ℕ) (packet : List ℕ) : Type 0 where
   pub some : 1 ≤ length (payload_of packet)
   pub most : length (payload_of packet) ≤ unit
 
-read_sized : (eid unit : ℕ) (packet : List ℕ) {h : Header} → read_header eid unit inward packet ≡ Packet h → Sized unit packet
+read_sized : (eid unit : ℕ) (packet : List ℕ) {h : Header} → read_header eid unit inward packet ≡ Ok h → Sized unit packet
 read_sized eid unit packet e =
     let k = packet_sized eid unit inward packet e in
     record { some = rw (length-drop 4 packet) (omega (arith, k.0)); most = rw (length-drop 4 packet) (omega (arith, k.1)) }
 
 -- a header's refusal has a number from 10 to 14
-abbrev Numbered : Read → Type 0
-Numbered (Refused n) = (10 ≤ n) × (n ≤ 14)
-Numbered (Packet h) = Unit {0}
+abbrev Numbered : Result Header ℕ → Type 0
+Numbered (Err n) = (10 ≤ n) × (n ≤ 14)
+Numbered (Ok h) = Unit {0}
 
 numbered : (eid unit : ℕ) (packet : List ℕ) → Numbered (read_header eid unit inward packet)
 unfolding read_header
@@ -82,7 +82,7 @@ numbered eid unit packet =
     if_ind Numbered (not (eqb (byte_at packet 1) eid)) (λ _. (omega arith, omega arith))
     (λ _. if_ind Numbered (not (same (is_set (byte_at packet 3) 3) inward)) (λ _. (omega arith, omega arith)) (λ _. tt)))))
 
-read_number : (eid unit : ℕ) (packet : List ℕ) {n : ℕ} → read_header eid unit inward packet ≡ Refused n → (10 ≤ n) × (n ≤ 14)
+read_number : (eid unit : ℕ) (packet : List ℕ) {n : ℕ} → read_header eid unit inward packet ≡ Err n → (10 ≤ n) × (n ≤ 14)
 read_number eid unit packet {n} e = rw e at (numbered eid unit packet)
 
 -- what is known of a packet that is read
@@ -92,7 +92,7 @@ pub record ReadSo (eid : ℕ) (packet : List ℕ) (h : Header) : Type 0 where
   pub direction : is_set (byte_at packet 3) 3 ≡ true
   pub fields_are : h ≡ fields packet
 
-pub read_facts : (eid unit : ℕ) (packet : List ℕ) {h : Header} → read_header eid unit inward packet ≡ Packet h → ReadSo eid packet h
+pub read_facts : (eid unit : ℕ) (packet : List ℕ) {h : Header} → read_header eid unit inward packet ≡ Ok h → ReadSo eid packet h
 unfolding read_header
 read_facts eid unit packet {h} e =
     let a = if_second (ltb (length packet) 5) not_read e in
@@ -111,7 +111,7 @@ read_facts eid unit packet {h} e =
     same_true true q = refl
     same_true false q = q
 
-    packet_is : Packet (fields packet) ≡ Packet h → h ≡ fields packet
+    packet_is : ◌≡◌ {A = Result Header ℕ} (Ok (fields packet)) (Ok h) → h ≡ fields packet
     packet_is q = cc
 
 pub right_stores : (w : World) → Sound w → wrong_stores w ≡ false
@@ -155,7 +155,7 @@ module _ (w₀ : World) (packet : List ℕ) where
     pub same_unit : w.endpoint.unit ≡ w₀.endpoint.unit
     pub early : is_early (slot_at w.endpoint i).phase ≡ true
     pub alone : gathers header.source header.tag (slot_at w.endpoint (other_slot i)).phase ≡ false
-    pub read_so : read_header w₀.endpoint.eid w₀.endpoint.unit inward packet ≡ Packet header
+    pub read_so : read_header w₀.endpoint.eid w₀.endpoint.unit inward packet ≡ Ok header
     pub fits : at + length message ≤ store_size
     pub origin : Origin w i at
 
@@ -171,7 +171,7 @@ module _ (w₀ : World) (packet : List ℕ) where
 
   -- a control primitive that came whole, with a right check
   pub record Controls : Type 0 where
-    pub read_so : read_header w₀.endpoint.eid w₀.endpoint.unit inward packet ≡ Packet header
+    pub read_so : read_header w₀.endpoint.eid w₀.endpoint.unit inward packet ≡ Ok header
     pub som : has_som packet ≡ true
     pub eom : header.eom ≡ true
     pub twelve : length message ≡ control_size
@@ -263,7 +263,7 @@ module _ (w₀ : World) (packet : List ℕ) (P : World → Type 0) (Q : Outcome 
   abbrev Free : World → Type 0
   Free w = (i : ℕ) → i ≤ 1 → gathers H.source H.tag (slot_at w.endpoint i).phase ≡ false
 
-  command_walk : (w : World) → w.endpoint.unit ≡ U → read_header w₀.endpoint.eid U inward packet ≡ Packet H → Free w → H.som ≡ true → length M ≤ U
+  command_walk : (w : World) → w.endpoint.unit ≡ U → read_header w₀.endpoint.eid U inward packet ≡ Ok H → Free w → H.som ≡ true → length M ≤ U
       → is_cut U H (length M) ≡ false → eqb (message_header M).nmimt control ≡ false → (H.eom ≡ true → smallest ≤ length M) → P w → Q (first_command w H (message_header M).csi M)
   unfolding first_command
   command_walk w same_unit read_so free som hi cut kind last p =
@@ -285,11 +285,11 @@ module _ (w₀ : World) (packet : List ℕ) (P : World → Type 0) (Q : Outcome 
       })
       (λ e. omega (arith, last e)) (λ e. one_unit w.endpoint.unit (0 + length M) (omega (arith, full_unit U H (length M) cut e, same_unit))) p)
 
-  first_walk : (w : World) → w.endpoint.unit ≡ U → read_header w₀.endpoint.eid U inward packet ≡ Packet H → Free w → H.som ≡ true → length M ≤ U → P w → Q (first w H M)
+  first_walk : (w : World) → w.endpoint.unit ≡ U → read_header w₀.endpoint.eid U inward packet ≡ Ok H → Free w → H.som ≡ true → length M ≤ U → P w → Q (first w H M)
   unfolding first opened
   first_walk w same_unit read_so free som hi p = rows w.endpoint.unit same_unit
     where
-      R : First → Type 0
+      R : Result First ℕ → Type 0
       R o = Q (first_by w H M o)
 
       was_false : (b : Bool) → not (same b false) ≡ false → b ≡ false
@@ -318,8 +318,8 @@ module _ (w₀ : World) (packet : List ℕ) (P : World → Type 0) (Q : Outcome 
           (record {
             read_so = read_so;
             som = som;
-            eom = not-false H.eom (or_left (not H.eom) (not (eqb (length M) control_size)) one);
-            twelve = eqb-true (length M) control_size (not-false (eqb (length M) control_size) (or_right (not H.eom) (not (eqb (length M) control_size)) one));
+            eom = not-false H.eom (or_parts (not H.eom) (not (eqb (length M) control_size)) one).0;
+            twelve = eqb-true (length M) control_size (not-false (eqb (length M) control_size) (or_parts (not H.eom) (not (eqb (length M) control_size)) one).1);
             typed = eqb-true (byte_at M 0) message_type (not-false (eqb (byte_at M 0) message_type) typed);
             request = was_false (message_header M).ror request;
             kind = eqb-true (message_header M).nmimt control (not-false (eqb (message_header M).nmimt control) kind);
@@ -327,8 +327,8 @@ module _ (w₀ : World) (packet : List ℕ) (P : World → Type 0) (Q : Outcome 
           })
           p))))))))
 
-  later_at_lem : (i : ℕ) (a : Assembly) → read_header w₀.endpoint.eid U inward packet ≡ Packet H → Holds w₀.endpoint H.source H.tag i a
-      → H.som ≡ false → 1 ≤ length M → P w₀ → Q (later_by w₀ H M (At i a))
+  later_at_lem : (i : ℕ) (a : Assembly) → read_header w₀.endpoint.eid U inward packet ≡ Ok H → Holds w₀.endpoint H.source H.tag i a
+      → H.som ≡ false → 1 ≤ length M → P w₀ → Q (later_by w₀ H M (Some (i, a)))
   unfolding later_at
   later_at_lem i a read_so held som lo p =
       let is = held.slot_is in
@@ -357,13 +357,13 @@ module _ (w₀ : World) (packet : List ℕ) (P : World → Type 0) (Q : Outcome 
       (λ some. k.dropping w₀ i refusal (join_break w₀ packet som U a.sequence a.length (length M) H some)
       (record { slot_is = is; assembly_is = a; gathers_it = held.gathers_it; from_it = held.from_it }) p)
 
-  later_walk : read_header w₀.endpoint.eid U inward packet ≡ Packet H → H.som ≡ false → 1 ≤ length M → P w₀ → Q (later w₀ H M)
+  later_walk : read_header w₀.endpoint.eid U inward packet ≡ Ok H → H.som ≡ false → 1 ≤ length M → P w₀ → Q (later w₀ H M)
   unfolding later
   later_walk read_so som lo p = go (holder w₀.endpoint H.source H.tag) refl
     where
-      go : (x : Holder) → holder w₀.endpoint H.source H.tag ≡ x → Q (later_by w₀ H M x)
-      go Nowhere e = k.refusing w₀ no_assembly (of_no_slot som (holder_none w₀.endpoint H.source H.tag e)) p
-      go (At i a) e = later_at_lem i a read_so (holder_at w₀.endpoint H.source H.tag e) som lo p
+      go : (x : Option (ℕ × Assembly)) → holder w₀.endpoint H.source H.tag ≡ x → Q (later_by w₀ H M x)
+      go None e = k.refusing w₀ no_assembly (of_no_slot som (holder_none w₀.endpoint H.source H.tag e)) p
+      go (Some (i, a)) e = later_at_lem i a read_so (holder_at w₀.endpoint H.source H.tag e) som lo p
 
 -- A packet that comes with stores of the right length: without SOM the walk starts in the world as it is, with SOM where an assembly with its
 -- source and tag has ended.
@@ -373,11 +373,11 @@ unfolding received
 walked w packet P Q k s p finished =
     rw (right_stores w s) (by (read_header w.endpoint.eid w.endpoint.unit inward packet) refl)
   where
-    by : (r : Read) → read_header w.endpoint.eid w.endpoint.unit inward packet ≡ r → Q (received_by w (payload_of packet) r)
-    by (Refused n) e = let b = read_number w.endpoint.eid w.endpoint.unit packet e in k.unread n b.0 b.1
-    by (Packet h) e =
+    by : (r : Result Header ℕ) → read_header w.endpoint.eid w.endpoint.unit inward packet ≡ r → Q (received_by w (payload_of packet) r)
+    by (Err n) e = let b = read_number w.endpoint.eid w.endpoint.unit packet e in k.unread n b.0 b.1
+    by (Ok h) e =
         let f : h ≡ fields packet = (read_facts w.endpoint.eid w.endpoint.unit packet e).fields_are in
-        let read_so : read_header w.endpoint.eid w.endpoint.unit inward packet ≡ Packet (fields packet) = rw f at e in
+        let read_so : read_header w.endpoint.eid w.endpoint.unit inward packet ≡ Ok (fields packet) = rw f at e in
         let z = read_sized w.endpoint.eid w.endpoint.unit packet e in
         rw f
         (if_ind Q (fields packet).som

@@ -10,12 +10,13 @@ use lib.ListN.{length}
 use lib.Seq.{get_or-drop}
 use borrow.Author.Tests.{eq-eqb, ne_eqb, eqb-false, ltb-true}
 use Rattle.lent.specs.Bytes.{byte_at}
-use Rattle.lent.proofs.Choice.{if_ind, false_true, and_both, differ}
+use Rattle.std.proofs.lemmas.Bool.{and_parts}
+use Rattle.lent.proofs.Choice.{if_ind, false_true, differ}
 use Rattle.mctp.specs.Header.{fields}
-use Rattle.machine.specs.State.{World, Outcome, slot_at, with_endpoint, is_idle}
+use Rattle.machine.specs.State.{World, Outcome, Done, slot_at, with_endpoint, is_idle}
 use Rattle.machine.specs.Wire.{packet_room, wrong_stores}
 use Rattle.machine.specs.Receive.{refused, refused_busy, dropped, end_assembly, flag_of, received}
-use Rattle.machine.specs.Finish.{is_slot, taken, presented, is_body, completed_by, completed, declared_by, was_declared, is_receive, timed_out}
+use Rattle.machine.specs.Finish.{TakeDone, is_slot, taken, presented, is_body, completed_by, completed, declared_by, was_declared, is_receive, timed_out}
 use Rattle.machine.specs.Poll.{Polled, ready, reply_first, polled_by, polled}
 use Rattle.machine.specs.Valid.{Valid, Sound}
 use Rattle.machine.specs.Calls.{receive, take!, read, complete, declare, poll, timeout, reset, number, given, handed_out, take_event, poll_event, step}
@@ -23,11 +24,12 @@ use Rattle.machine.specs.History.{has_som, source_of, message_tag_of, phase_at, 
 use Rattle.machine.specs.Numbers.{right_sizes}
 use Rattle.machine.specs.Demands.{is_idle_now}
 use Rattle.machine.specs.Refusals.{FlagColumn, assembly_ended, place_in, stored, is_command, Leaves, unread, tabled, unstored, busy, unknown, broken, failed, RefusedPacket, WrongStores, RefusedCall, is_one_of, Named}
-use Rattle.machine.specs.Types.{Ticket, Phase, Idle, Receive, Process, Answered, Transmit, Endpoint, Done, TakeDone, Presented, Unmatched, Matched, Ready, Nothing, From}
+use Rattle.machine.specs.Types.{Ticket, Request, Outgoing, Phase, Idle, Receive, Process, Answered, Transmit, Reply, Endpoint}
 use Rattle.machine.proofs.Receiving.{receives_gathers, is_command_lem, Origin, opens, goes_on, Joining, filled, Ground, in_table, of_control, of_no_slot, Busy, Gathering, Break, in_sequence, in_size, in_total, Walk, walked}
 use Rattle.machine.proofs.Cases.{same_number, NotTaken, take_30, take_31, take_33, take_cases, NotMatched, ticket_30, ticket_31, ticket_32, ticket_34, ticket_cases}
 use Rattle.machine.proofs.Numbers.{wrong_sizes}
 use Rattle.machine.proofs.Keeps.{sound_endpoint, sound_of, end_valid}
+use Rattle.std.specs.Prelude.{Option, None, Some, Result, Ok, Err}
 
 pub flag_column : FlagColumn
 unfolding flag_of
@@ -160,7 +162,7 @@ unfolding completed
 complete_unchanged w i t body =
     if_ind Unchanged (wrong_stores w) (λ _ _. refl)
     (λ _.
-    ticket_cases (λ (x : Presented). Unchanged (completed_by w i body x)) w.endpoint i t (λ _ _ _. refl)
+    ticket_cases (λ (x : Result Request ℕ). Unchanged (completed_by w i body x)) w.endpoint i t (λ _ _ _. refl)
     (λ k. if_ind Unchanged (not (is_body body)) (λ _ _. refl) (λ _ h. absurd (omega arith))))
   where
     Unchanged : Outcome → Type 0
@@ -170,9 +172,9 @@ declare_unchanged : (e : Endpoint) (i : ℕ) (t : Ticket) (can : Bool) → 30 �
 unfolding was_declared
 declare_unchanged e i t can = by (presented e i t)
   where
-    by : (x : Presented) → 30 ≤ (declared_by e i can x).answer → (declared_by e i can x).endpoint ≡ e
-    by (Unmatched n) h = refl
-    by (Matched r) h = absurd (omega arith)
+    by : (x : Result Request ℕ) → 30 ≤ (declared_by e i can x).answer → (declared_by e i can x).endpoint ≡ e
+    by (Err n) h = refl
+    by (Ok r) h = absurd (omega arith)
 
 timeout_unchanged : (e : Endpoint) (i : ℕ) → 30 ≤ (timed_out e i).answer → (timed_out e i).endpoint ≡ e
 unfolding timed_out
@@ -186,14 +188,16 @@ timeout_unchanged e i =
 poll_unchanged : (w : World) (buffer : List ℕ) (n : ℕ) → poll_event (polled w buffer).buffer (polled w buffer).answer ≡ number n → (polled w buffer).endpoint ≡ w.endpoint
 unfolding polled
 poll_unchanged w buffer n =
-    if_ind Unchanged (wrong_stores w) (λ _ _. refl) (λ _. if_ind Unchanged (ltb (length buffer) (packet_room w.endpoint)) (λ _ _. refl) (λ _. by (ready w.endpoint)))
+    if_ind Unchanged (wrong_stores w) (λ _ _. refl) (λ _. if_ind Unchanged (ltb (length buffer) (packet_room w.endpoint)) (λ _ _. refl) (λ _. by w.endpoint.reply (ready w.endpoint)))
   where
     Unchanged : Polled → Type 0
     Unchanged p = poll_event p.buffer p.answer ≡ number n → p.endpoint ≡ w.endpoint
 
-    by : (x : Ready) → Unchanged (polled_by w buffer x)
-    by Nothing = if_ind Unchanged w.endpoint.reply_waits (λ _ q. out_number q) (λ _ _. refl)
-    by (From i r) = if_ind Unchanged (reply_first w.endpoint) (λ _ q. out_number q) (λ _ q. out_number q)
+    by : (reply : Option Reply) (x : Option (ℕ × Outgoing)) → Unchanged (polled_by w buffer reply x)
+    by None None = λ _. refl
+    by None (Some (i, r)) = λ q. out_number q
+    by (Some reply) None = λ q. out_number q
+    by (Some reply) (Some (i, r)) = if_ind Unchanged (reply_first w.endpoint) (λ _ q. out_number q) (λ _ q. out_number q)
 
 -- ---- the numbers
 
@@ -283,7 +287,7 @@ complete_named : (w : World) (i : ℕ) (t : Ticket) (body : List ℕ) → In (0 
 unfolding completed
 complete_named w i t body =
     if_ind Says (wrong_stores w) (λ _. refl)
-    (λ _. ticket_cases (λ (x : Presented). Says (completed_by w i body x)) w.endpoint i t (λ n d. listed d) (λ k. if_ind Says (not (is_body body)) (λ _. refl) (λ _. refl)))
+    (λ _. ticket_cases (λ (x : Result Request ℕ). Says (completed_by w i body x)) w.endpoint i t (λ n d. listed d) (λ k. if_ind Says (not (is_body body)) (λ _. refl) (λ _. refl)))
   where
     Says : Outcome → Type 0
     Says o = In (0 ∷ 30 ∷ 31 ∷ 32 ∷ 34 ∷ 35 ∷ 40 ∷ []) o.answer
@@ -297,7 +301,7 @@ complete_named w i t body =
 declare_named : (e : Endpoint) (i : ℕ) (t : Ticket) (can : Bool) → In (0 ∷ 30 ∷ 31 ∷ 32 ∷ 34 ∷ []) (was_declared e i t can).answer
 unfolding was_declared
 declare_named e i t can =
-    ticket_cases (λ (x : Presented). In (0 ∷ 30 ∷ 31 ∷ 32 ∷ 34 ∷ []) (declared_by e i can x).answer) e i t (λ n d. listed d) (λ k. refl)
+    ticket_cases (λ (x : Result Request ℕ). In (0 ∷ 30 ∷ 31 ∷ 32 ∷ 34 ∷ []) (declared_by e i can x).answer) e i t (λ n d. listed d) (λ k. refl)
   where
     listed : {n : ℕ} → NotMatched n → In (0 ∷ 30 ∷ 31 ∷ 32 ∷ 34 ∷ []) n
     listed ticket_30 = refl
@@ -316,7 +320,7 @@ timeout_named e i =
 poll_named : (w : World) (buffer : List ℕ) (n : ℕ) → poll_event (polled w buffer).buffer (polled w buffer).answer ≡ number n → In (0 ∷ 36 ∷ 40 ∷ []) n
 unfolding polled
 poll_named w buffer n =
-    if_ind Says (wrong_stores w) (λ _ q. listed 40 q refl) (λ _. if_ind Says (ltb (length buffer) (packet_room w.endpoint)) (λ _ q. listed 36 q refl) (λ _. by (ready w.endpoint)))
+    if_ind Says (wrong_stores w) (λ _ q. listed 40 q refl) (λ _. if_ind Says (ltb (length buffer) (packet_room w.endpoint)) (λ _ q. listed 36 q refl) (λ _. by w.endpoint.reply (ready w.endpoint)))
   where
     Says : Polled → Type 0
     Says p = poll_event p.buffer p.answer ≡ number n → In (0 ∷ 36 ∷ 40 ∷ []) n
@@ -324,9 +328,11 @@ poll_named w buffer n =
     listed : (k : ℕ) → number k ≡ number n → In (0 ∷ 36 ∷ 40 ∷ []) k → In (0 ∷ 36 ∷ 40 ∷ []) n
     listed k q h = rw (sym (same_number q)) h
 
-    by : (x : Ready) → Says (polled_by w buffer x)
-    by Nothing = if_ind Says w.endpoint.reply_waits (λ _ q. out_number q) (λ _ q. listed 0 q refl)
-    by (From i r) = if_ind Says (reply_first w.endpoint) (λ _ q. out_number q) (λ _ q. out_number q)
+    by : (reply : Option Reply) (x : Option (ℕ × Outgoing)) → Says (polled_by w buffer reply x)
+    by None None = λ q. listed 0 q refl
+    by None (Some (i, r)) = λ q. out_number q
+    by (Some reply) None = λ q. out_number q
+    by (Some reply) (Some (i, r)) = if_ind Says (reply_first w.endpoint) (λ _ q. out_number q) (λ _ q. out_number q)
 
 pub named : Named
 unfolding step
@@ -352,7 +358,7 @@ not_received n h lo hi = false_true (sym (absent receiving refl) ∙ h)
     absent : (ks : List ℕ) → outside ks ≡ true → is_one_of n ks ≡ false
     absent [] q = refl
     absent (k ∷ ks) q =
-        let a = and_both (ltb k 30 || ltb 39 k) (outside ks) q in
+        let a = and_parts (ltb k 30 || ltb 39 k) (outside ks) q in
         rw (ne_eqb n k (λ e. away k e (ltb k 30) (ltb 39 k) refl refl a.0)) (absent ks a.1)
       where
         away : (k : ℕ) → n ≡ k → (x y : Bool) → ltb k 30 ≡ x → ltb 39 k ≡ y → (x || y) ≡ true → ⊥

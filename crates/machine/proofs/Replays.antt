@@ -2,22 +2,22 @@
 -- Assumes nothing.
 use Prim.Native.Nat.{ℕ, ◌+◌, ◌-◌, ◌%◌, ◌≤◌}
 use mathlib.Core.Path.{◌≡◌, refl, sym, ap, ◌∙◌}
-use mathlib.Core.Bool.{Bool, true, false, not, ◌&&◌, ◌||◌}
+use mathlib.Core.Bool.{Bool, true, false, not, ◌&&◌, ◌||◌, and-false}
 use mathlib.Core.List.{List, []}
 use native.Mathlib.Nat.{sub-zero}
 use native.Mathlib.Omega.{arith}
 use lib.Dec.{eqb, ltb}
 use lib.ListN.{length}
 use borrow.Author.Tests.{eq-eqb, ne_eqb, eqb-true, eqb-false, ltb-false, not-true, not-false}
-use Rattle.std.specs.Prelude.{if◌then◌else◌}
+use Rattle.std.specs.Prelude.{Result, Ok, Err, Option, None, Some, if◌then◌else◌}
 use Rattle.lent.specs.Bytes.{byte_at, is_set}
-use Rattle.lent.proofs.Choice.{if_ind, false_true, and_both, and_false}
+use Rattle.std.proofs.lemmas.Bool.{and_parts}
+use Rattle.lent.proofs.Choice.{if_ind, false_true}
 use Rattle.mctp.specs.Header.{fields, payload_of}
 use Rattle.nvme_mi.specs.Message.{message_header, command_fault, smallest}
 use Rattle.nvme_mi.specs.Response.{fault_body}
 use Rattle.nvme_mi.specs.declared.Fault.{Fault}
-use Rattle.nvme_mi.specs.declared.Fault.TheVariants.{NoFault, Parameter, Failure}
-use Rattle.machine.specs.State.{World, Outcome, outcome, slot_at, store_at, held_in, with_slot, with_endpoint, on_slot, with_phase, with_busy, idled, packet_sent, settled}
+use Rattle.machine.specs.State.{World, Outcome, outcome, slot_at, store_at, held_in, with_slot, with_endpoint, on_slot, with_phase, with_busy, idled, packet_sent, settled, reply_message}
 use Rattle.machine.specs.Process.{response_to, responded, responded_at_once, entered}
 use Rattle.machine.specs.Receive.{refused, refused_busy, dropped, gathers, ended_slot, end_assembly, received}
 use Rattle.machine.specs.Finish.{is_receive}
@@ -29,13 +29,13 @@ use Rattle.machine.specs.Demands.{most_polls}
 use Rattle.machine.specs.Refusals.{is_command}
 use Rattle.machine.specs.Replies.{csi_of, no_cpsp, wrong_replay, is_error, slot_found, holds_one, cpsr_of, unpaused, sent_again, acted_on, reply_of, Replied}
 use Rattle.machine.specs.Replays.{held_at, response_of, is_stored, is_replay, held_after, HeldIs, HeldMoves, SentAgain, ReplaySends, ReplayArrives}
-use Rattle.machine.specs.Types.{Response, Outgoing, Held, NoResponse, Last, Phase, Idle, Receive, Process, Answered, Transmit, Slot, Endpoint}
+use Rattle.machine.specs.Types.{Response, Outgoing, Phase, Idle, Receive, Process, Answered, Transmit, Slot, Endpoint}
 use Rattle.machine.proofs.Slots.{held_idle, facts_at, other_most}
 use Rattle.machine.proofs.Receiving.{is_command_lem, Joining, filled, grown, whole, Ground, in_table, of_control, of_no_slot, Busy, Gathering, Break, in_sequence, in_size, in_total, Walk, walked, receives_gathers}
 use Rattle.machine.proofs.Places.{Which, this, that, which, slot_this, slot_that, slot_both}
 use Rattle.machine.proofs.Touches.{Touched, alone, handed, fixed, ended as ended_by_timeout, take_touches, complete_touches, declare_touches, timeout_touches}
 use Rattle.machine.proofs.Fits.{Fit, Full, Going, goes, quiet_begins}
-use Rattle.machine.proofs.Received.{Mid, for_this, for_that, command, e₂, w₂, e₂_valid, in_process, that_phase, start_mid, ended_mid}
+use Rattle.machine.proofs.Carried.{Mid, for_this, for_that, command, e₂, w₂, e₂_valid, in_process, that_phase, start_mid, ended_mid}
 use Rattle.machine.proofs.Primitives.{acting}
 use Rattle.machine.proofs.Keeps.{Chosen, chosen_at}
 use Rattle.machine.proofs.Polling.{PollCase, still, replies, sends, poll_case, moved_same}
@@ -46,14 +46,14 @@ use Rattle.machine.proofs.Replies.{primitive_done, control_replied, acts, acts_s
 
 -- ---- what a slot that is not Idle holds
 
-gathers_none : (source tag : ℕ) (p : Phase) → gathers source tag p ≡ true → held_in p ≡ NoResponse
+gathers_none : (source tag : ℕ) (p : Phase) → gathers source tag p ≡ true → held_in p ≡ None
 gathers_none source tag (Idle held) h = false_true h
 gathers_none source tag (Receive a) h = refl
 gathers_none source tag (Process r) h = refl
 gathers_none source tag (Answered r) h = refl
 gathers_none source tag (Transmit r) h = refl
 
-settled_none : (b : Bool) (r : Response) → held_in (settled b r) ≡ NoResponse
+settled_none : (b : Bool) (r : Response) → held_in (settled b r) ≡ None
 settled_none true r = refl
 settled_none false r = refl
 
@@ -67,15 +67,15 @@ module _ (w₀ : World) (p : List ℕ) (trace : ℕ → Trace) (s₀ : Sound w�
     helds : (j : ℕ) → j ≤ 1 → held_at w j ≡ held_at w₀ j
 
   -- after answer n
-  abbrev held_by : ℕ → ℕ → Held
-  held_by n j = if is_stored j p w₀ n then NoResponse else held_at w₀ j
+  abbrev held_by : ℕ → ℕ → Option Response
+  held_by n j = if is_stored j p w₀ n then None else held_at w₀ j
 
   abbrev Holds : Outcome → Type 0
   Holds o = (o.answer ≡ 2 → ⊥) → (j : ℕ) → j ≤ 1 → held_at o.world j ≡ held_by o.answer j
 
   -- a packet that is not stored
   unstored : (j n : ℕ) → 2 ≤ n → (eqb n 19 && is_command p) ≡ false → is_stored j p w₀ n ≡ false
-  unstored j n lo e = rw (ne_eqb n 0 (λ q. omega arith), ne_eqb n 1 (λ q. omega arith), e) (and_false (is_for j p w₀))
+  unstored j n lo e = rw (ne_eqb n 0 (λ q. omega arith), ne_eqb n 1 (λ q. omega arith), e) (and-false (is_for j p w₀))
 
   other_number : (n : ℕ) → (n ≡ 19 → ⊥) → (eqb n 19 && is_command p) ≡ false
   other_number n k = rw (ne_eqb n 19 k) refl
@@ -119,12 +119,12 @@ module _ (w₀ : World) (p : List ℕ) (trace : ℕ → Trace) (s₀ : Sound w�
   unfolding refused
   dropping w i n k g on _ =
       let b = broken k in
-      let none : held_at w i ≡ NoResponse = rw g.gathers_it refl in
+      let none : held_at w i ≡ None = rw g.gathers_it refl in
       let un : (j : ℕ) → is_stored j p w₀ n ≡ false = λ j. unstored j n b.0 (other_number n b.1) in
       one_holds w on i n g.slot_is (idled (slot_at w.endpoint i)) (sym none ∙ unchanged w on i n g.slot_is (un i)) (un (other_slot i))
 
   -- a command's packet that is stored: the slot that it is for holds nothing
-  loses : (w : World) (i at n : ℕ) → Joining w₀ p w i at → On w → (eqb n 0 || eqb n 1 || (eqb n 19 && true)) ≡ true → held_by n i ≡ NoResponse
+  loses : (w : World) (i at n : ℕ) → Joining w₀ p w i at → On w → (eqb n 0 || eqb n 1 || (eqb n 19 && true)) ≡ true → held_by n i ≡ None
   loses w i at n j on e = rw (for_this w₀ p trace s₀ fits w i at on.mid j, is_command_lem w₀ p j.origin, e) refl
 
   other_keeps : (w : World) (i at n : ℕ) → Joining w₀ p w i at → On w → is_stored (other_slot i) p w₀ n ≡ false
@@ -146,7 +146,7 @@ module _ (w₀ : World) (p : List ℕ) (trace : ℕ → Trace) (s₀ : Sound w�
     abbrev asked : World
     asked = w₂ w₀ p trace s₀ fits w i at j lo on.mid
 
-    here : (x : Phase) → held_in x ≡ NoResponse → held_in x ≡ held_by 1 i
+    here : (x : Phase) → held_in x ≡ None → held_in x ≡ held_by 1 i
     here x e = e ∙ sym (loses w i at 1 j on refl)
 
     there : held_in (slot_at entry (other_slot i)).phase ≡ held_by 1 (other_slot i)
@@ -173,12 +173,11 @@ module _ (w₀ : World) (p : List ℕ) (trace : ℕ → Trace) (s₀ : Sound w�
         by (this q) = rw (q, slot_this i j.slot_is v s) (here (settled (slot_at entry i).paused r) (settled_none (slot_at entry i).paused r))
         by (that q) = rw (q, slot_that i j.slot_is v s) there
 
-    at_once : (f : Fault) (k : ℕ) → k ≤ 1
+    at_once : (f : Result (Unit {0}) Fault) (k : ℕ) → k ≤ 1
         → held_at (responded_at_once asked i (command w₀ p trace s₀ fits w i at j lo on.mid) f) k ≡ held_by 1 k
     unfolding responded
-    at_once NoFault k ks = waits k ks
-    at_once (Parameter byte bit) k ks = answered (response_to (command w₀ p trace s₀ fits w i at j lo on.mid) (fault_body (Parameter byte bit))) k ks
-    at_once (Failure status) k ks = answered (response_to (command w₀ p trace s₀ fits w i at j lo on.mid) (fault_body (Failure status))) k ks
+    at_once (Ok none) k ks = waits k ks
+    at_once (Err fault) k ks = answered (response_to (command w₀ p trace s₀ fits w i at j lo on.mid) (fault_body (Err fault))) k ks
 
   entering : (w : World) (i at : ℕ) → Joining w₀ p w i at → smallest ≤ at + length (payload_of p) → On w
       → Holds (outcome 1 (entered (filled w₀ p w i at) i (grown w₀ p at) (message_header (whole w₀ p w i at))))
@@ -224,8 +223,8 @@ record Replaying (i : ℕ) (w : World) (p : List ℕ) : Type 0 where
 
 replaying : (i : ℕ) (w : World) (p : List ℕ) → Sound w → is_replay i w.endpoint.eid p ≡ true → Replaying i w p
 replaying i w p s h =
-    let k = and_both (is_primitive 4 w.endpoint.eid p && no_cpsp (bytes_from4 p)) (eqb (byte_at (bytes_from4 p) 1 % 2) i) h in
-    let q = and_both (is_primitive 4 w.endpoint.eid p) (no_cpsp (bytes_from4 p)) k.0 in
+    let k = and_parts (is_primitive 4 w.endpoint.eid p && no_cpsp (bytes_from4 p)) (eqb (byte_at (bytes_from4 p) 1 % 2) i) h in
+    let q = and_parts (is_primitive 4 w.endpoint.eid p) (no_cpsp (bytes_from4 p)) k.0 in
     record {
       for_slot = eqb-true (byte_at (bytes_from4 p) 1 % 2) i k.1;
       acted = acts_so 4 (omega arith) w p s q.0 (rw q.1 refl);
@@ -241,19 +240,19 @@ unpaused_holds (Answered r) = refl
 unpaused_holds (Transmit r) = refl
 
 -- what was held is sent
-sent_holds : (k : Held) (s : Slot) → held_in s.phase ≡ k → held_in (sent_again k s).phase ≡ NoResponse
-sent_holds NoResponse s e = e
-sent_holds (Last r) s e = refl
+sent_holds : (k : Option Response) (s : Slot) → held_in s.phase ≡ k → held_in (sent_again k s).phase ≡ None
+sent_holds None s e = e
+sent_holds (Some r) s e = refl
 
 -- one that acts: Abort and Replay of the slot leave it holding nothing, and no other changes what it holds
 acted_holds : (m : List ℕ) (i : ℕ) (s : Slot) → ltb 4 (byte_at m 4) ≡ false
-    → held_in (acted_on m i s).phase ≡ (if (eqb (byte_at m 4) 2 || eqb (byte_at m 4) 4) && eqb (csi_of m) i then NoResponse else held_in s.phase)
+    → held_in (acted_on m i s).phase ≡ (if (eqb (byte_at m 4) 2 || eqb (byte_at m 4) 4) && eqb (csi_of m) i then None else held_in s.phase)
 acted_holds m i s known =
     if_ind After (eqb (byte_at m 4) 0) (λ z. rw (eqb-true (byte_at m 4) 0 z) refl)
     (λ not_0.
     if_ind After (eqb (byte_at m 4) 1) (λ z. rw (eqb-true (byte_at m 4) 1 z) (unpaused_holds s.phase))
     (λ not_1.
-    if_ind After (not (eqb i (csi_of m))) (λ z. rw (ne_eqb (csi_of m) i (λ q. eqb-false i (csi_of m) (not-true (eqb i (csi_of m)) z) (sym q)), and_false (eqb (byte_at m 4) 2 || eqb (byte_at m 4) 4)) refl)
+    if_ind After (not (eqb i (csi_of m))) (λ z. rw (ne_eqb (csi_of m) i (λ q. eqb-false i (csi_of m) (not-true (eqb i (csi_of m)) z) (sym q)), and-false (eqb (byte_at m 4) 2 || eqb (byte_at m 4) 4)) refl)
     (λ mine.
     let own : eqb (csi_of m) i ≡ true = eq-eqb (csi_of m) i (sym (eqb-true i (csi_of m) (not-false (eqb i (csi_of m)) mine))) in
     if_ind After (eqb (byte_at m 4) 2) (λ z. rw (z, own) refl)
@@ -266,7 +265,7 @@ acted_holds m i s known =
     rw (o, own) (sent_holds (held_in s.phase) s refl))))))
   where
     After : Slot → Type 0
-    After x = held_in x.phase ≡ (if (eqb (byte_at m 4) 2 || eqb (byte_at m 4) 4) && eqb (csi_of m) i then NoResponse else held_in s.phase)
+    After x = held_in x.phase ≡ (if (eqb (byte_at m 4) 2 || eqb (byte_at m 4) 4) && eqb (csi_of m) i then None else held_in s.phase)
 
 -- a slot that a primitive finds holds what it held
 found_holds : (w : World) (p : List ℕ) (i : ℕ) → held_in (slot_found w p i).phase ≡ held_at w i
@@ -309,8 +308,8 @@ rows x y false false false true h = refl
 rows x y false false false false h = refl
 
 -- what slot i holds after a packet that stores nothing
-abbrev unstored_held : World → List ℕ → ℕ → Held
-unstored_held w p i = if is_abort i w.endpoint.eid p then NoResponse else if is_replay i w.endpoint.eid p then NoResponse else held_at w i
+abbrev unstored_held : World → List ℕ → ℕ → Option Response
+unstored_held w p i = if is_abort i w.endpoint.eid p then None else if is_replay i w.endpoint.eid p then None else held_at w i
 
 module _ (w : World) (p : List ℕ) (s : Sound w) where
   -- what an error reply answers, acts on no slot
@@ -319,7 +318,7 @@ module _ (w : World) (p : List ℕ) (s : Sound w) where
     where
       by : (b : Bool) → is_abort i w.endpoint.eid p ≡ b → b ≡ false
       by true h =
-          let k = and_both (is_primitive 2 w.endpoint.eid p) (eqb (byte_at (bytes_from4 p) 1 % 2) i) h in
+          let k = and_parts (is_primitive 2 w.endpoint.eid p) (eqb (byte_at (bytes_from4 p) 1 % 2) i) h in
           false_true (sym (acts 2 (omega arith) w p s k.0).1 ∙ e)
       by false h = refl
 
@@ -342,7 +341,7 @@ module _ (w : World) (p : List ℕ) (s : Sound w) where
           let f = faultless (bytes_from4 p) e in
           acted_holds (bytes_from4 p) i (slot_found w p i) f.known
           ∙ rw (whole_one, f.no_meb, f.no_ciap, found_holds w p i)
-          (sym (rows NoResponse (held_at w i) (eqb (byte_at (bytes_from4 p) 4) 2) (eqb (byte_at (bytes_from4 p) 4) 4) (no_cpsp (bytes_from4 p)) (eqb (byte_at (bytes_from4 p) 1 % 2) i) f.right))
+          (sym (rows None (held_at w i) (eqb (byte_at (bytes_from4 p) 4) 2) (eqb (byte_at (bytes_from4 p) 4) 4) (no_cpsp (bytes_from4 p)) (eqb (byte_at (bytes_from4 p) 1 % 2) i) f.right))
 
 -- ---- every call
 
@@ -355,22 +354,22 @@ none_acts w p s n i = (by_abort (is_abort i w.endpoint.eid p) refl, by_replay (i
     never opcode h = absurd (n (eqb-true (received w p).answer 2 (primitive_done w p s ∙ (acting opcode w.endpoint.eid p h).whole)))
 
     by_abort : (b : Bool) → is_abort i w.endpoint.eid p ≡ b → b ≡ false
-    by_abort true h = never 2 (and_both (is_primitive 2 w.endpoint.eid p) (eqb (byte_at (bytes_from4 p) 1 % 2) i) h).0
+    by_abort true h = never 2 (and_parts (is_primitive 2 w.endpoint.eid p) (eqb (byte_at (bytes_from4 p) 1 % 2) i) h).0
     by_abort false h = refl
 
     by_replay : (b : Bool) → is_replay i w.endpoint.eid p ≡ b → b ≡ false
     by_replay true h =
         never 4
-        (and_both (is_primitive 4 w.endpoint.eid p) (no_cpsp (bytes_from4 p))
-        (and_both (is_primitive 4 w.endpoint.eid p && no_cpsp (bytes_from4 p)) (eqb (byte_at (bytes_from4 p) 1 % 2) i) h).0).0
+        (and_parts (is_primitive 4 w.endpoint.eid p) (no_cpsp (bytes_from4 p))
+        (and_parts (is_primitive 4 w.endpoint.eid p && no_cpsp (bytes_from4 p)) (eqb (byte_at (bytes_from4 p) 1 % 2) i) h).0).0
     by_replay false h = refl
 
 receive_holds : (h : History) → Good h → (p : List ℕ) (i : ℕ) → i ≤ 1
-    → held_at (received h.world p).world i ≡ (if is_stored i p h.world (received h.world p).answer then NoResponse else unstored_held h.world p i)
+    → held_at (received h.world p).world i ≡ (if is_stored i p h.world (received h.world p).answer then None else unstored_held h.world p i)
 receive_holds h g p i is = by (eqb (received h.world p).answer 2) refl
   where
     by : (b : Bool) → eqb (received h.world p).answer 2 ≡ b
-        → held_at (received h.world p).world i ≡ (if is_stored i p h.world (received h.world p).answer then NoResponse else unstored_held h.world p i)
+        → held_at (received h.world p).world i ≡ (if is_stored i p h.world (received h.world p).answer then None else unstored_held h.world p i)
     by true e =
         let two : (received h.world p).answer ≡ 2 = eqb-true (received h.world p).answer 2 e in
         rw (unstored h.world p h.trace g.sound g.fits i (received h.world p).answer (omega (arith, two)) (other_number h.world p h.trace g.sound g.fits (received h.world p).answer (λ q. omega (arith, two))))
@@ -387,7 +386,7 @@ touched_holds (handed r can p q) = rw (q, p) refl
 touched_holds {s} (fixed r x p q) = rw (q, p) (settled_none s.paused x)
 touched_holds {s} (ended_by_timeout p q) = rw q (sym (receive_none s.phase p))
   where
-    receive_none : (p : Phase) → is_receive p ≡ true → held_in p ≡ NoResponse
+    receive_none : (p : Phase) → is_receive p ≡ true → held_in p ≡ None
     receive_none (Idle held) h = false_true h
     receive_none (Receive a) h = refl
     receive_none (Process r) h = refl
@@ -403,14 +402,14 @@ full_is r store l f =
 
 -- a poll: the slot whose last packet went holds its response
 poll_holds : (i : ℕ) → i ≤ 1 → (buffer : List ℕ) (h : History) → Good h
-    → held_at (step (poll buffer) h.world).world i ≡ (if last_by i (poll buffer) h (step (poll buffer) h.world) then Last (response_of h i) else held_at h.world i)
+    → held_at (step (poll buffer) h.world).world i ≡ (if last_by i (poll buffer) h (step (poll buffer) h.world) then Some (response_of h i) else held_at h.world i)
 poll_holds i is buffer h g = by (poll_case h.world buffer g.sound)
   where
     Holds : Stepped → Type 0
-    Holds s = held_at s.world i ≡ (if last_by i (poll buffer) h s then Last (response_of h i) else held_at h.world i)
+    Holds s = held_at s.world i ≡ (if last_by i (poll buffer) h s then Some (response_of h i) else held_at h.world i)
 
     -- the slot did not move
-    unmoved : (q : Phase) → q ≡ phase_at h.world i → (x : Bool) → held_in q ≡ (if moved (phase_at h.world i) q && x then Last (response_of h i) else held_at h.world i)
+    unmoved : (q : Phase) → q ≡ phase_at h.world i → (x : Bool) → held_in q ≡ (if moved (phase_at h.world i) q && x then Some (response_of h i) else held_at h.world i)
     unmoved q e x = rw (e, moved_same (phase_at h.world i)) refl
 
     -- slot i's own packet
@@ -426,12 +425,12 @@ poll_holds i is buffer h g = by (poll_case h.world buffer g.sound)
 
         go : (b : Bool) → is_last h.world.endpoint.unit r ≡ b
             → Holds (stepped (handed_out (command_packet h.world i r)) (with_endpoint h.world (packet_sent (with_slot h.world.endpoint i (after_packet h.world.endpoint.unit (slot_at h.world.endpoint i) r)) (other_slot i))))
-        go true e = rw (is_last_lem i is buffer h g r t e) (after ∙ rw e (ap Last (full_is r.response (store_at h.world i) (h.trace i) going.full)))
+        go true e = rw (is_last_lem i is buffer h g r t e) (after ∙ rw e (ap Some (full_is r.response (store_at h.world i) (h.trace i) going.full)))
         go false e = rw (not_last i is buffer h g r t e) (after ∙ rw (e, t) refl)
 
     by : {s : Stepped} → PollCase h.world buffer s → Holds s
     by (still n _) = refl
-    by (replies _ _) = rw (moved_same (phase_at h.world i)) refl
+    by (replies _ _ _) = rw (moved_same (phase_at h.world i)) refl
     by (sends k q c _) = at (which k i (chosen_at h.world.endpoint g.sound.state c).slot_is is)
       where
         picked : Chosen h.world.endpoint k q
@@ -469,13 +468,13 @@ held_is eid unit store0 store1 a b xs i is r e =
     let g = good_every eid unit store0 store1 a b xs in
     let idle = held_idle (phase_at h.world i) r e in
     let full : Full r (store_at h.world i) (h.trace i) = rw idle at (g.fits i is).phase_fits in
-    let facts : PhaseFacts (unit_of h.world) (slot_at h.world.endpoint i).paused (Idle (Last r)) = rw idle at (facts_at i is g.sound.state) in
+    let facts : PhaseFacts (unit_of h.world) (slot_at h.world.endpoint i).paused (Idle (Some r)) = rw idle at (facts_at i is g.sound.state) in
     record { response_is = full_is r (store_at h.world i) (h.trace i) full; least = facts.1.least; most = facts.1.most; lies = full.held }
 
 -- ---- a Replay of a slot that holds a response
 
 module _ (h : History) (g : Good h) (p : List ℕ) (i : ℕ) (is : i ≤ 1) (acted : is_replay i h.world.endpoint.eid p ≡ true) (r : Response)
-    (e : held_at h.world i ≡ Last r) where
+    (e : held_at h.world i ≡ Some r) where
   replay : Replaying i h.world p
   replay = replaying i h.world p g.sound acted
 
@@ -486,15 +485,15 @@ module _ (h : History) (g : Good h) (p : List ℕ) (i : ℕ) (is : i ≤ 1) (act
       gathering : {A : Type 0} → receives_from (source_of p) (message_tag_of p) (phase_at h.world i) ≡ true → A
       gathering k = false_true (ap (receives_from (source_of p) (message_tag_of p)) (sym (held_idle (phase_at h.world i) r e)) ∙ k)
 
-  slot_after : slot_at (received h.world p).world.endpoint i ≡ sent_again (Last r) (slot_at h.world.endpoint i)
+  slot_after : slot_at (received h.world p).world.endpoint i ≡ sent_again (Some r) (slot_at h.world.endpoint i)
   slot_after =
       let mine : eqb i (csi_of (bytes_from4 p)) ≡ true = eq-eqb i (csi_of (bytes_from4 p)) (sym replay.for_slot) in
       replay.acted.0.slots_are i is ∙ rw (replay.acted.1, replay.acted.2, mine, found, e) refl
 
   two : (received h.world p).answer ≡ 2
   two =
-      let k = and_both (is_primitive 4 h.world.endpoint.eid p && no_cpsp (bytes_from4 p)) (eqb (byte_at (bytes_from4 p) 1 % 2) i) acted in
-      let q = and_both (is_primitive 4 h.world.endpoint.eid p) (no_cpsp (bytes_from4 p)) k.0 in
+      let k = and_parts (is_primitive 4 h.world.endpoint.eid p && no_cpsp (bytes_from4 p)) (eqb (byte_at (bytes_from4 p) 1 % 2) i) acted in
+      let q = and_parts (is_primitive 4 h.world.endpoint.eid p) (no_cpsp (bytes_from4 p)) k.0 in
       eqb-true (received h.world p).answer 2 (primitive_done h.world p g.sound ∙ (acting 4 h.world.endpoint.eid p q.0).whole)
 
   cpsr_one : (after : World) → cpsr_of (bytes_from4 p) (slot_found h.world p (csi_of (bytes_from4 p))) h.world.endpoint.flags after ≡ 1
@@ -513,7 +512,7 @@ module _ (h : History) (g : Good h) (p : List ℕ) (i : ℕ) (is : i ≤ 1) (act
   is_sent_again =
       record {
         done = ap number two;
-        reply_is = replay.acted.0.reply_is ∙ ap (reply_of (bytes_from4 p)) (cpsr_one (received h.world p).world);
+        reply_is = ap reply_message replay.acted.0.reply_is ∙ ap (reply_of (bytes_from4 p)) (cpsr_one (received h.world p).world);
         in_transmit = ap (λ (s : Slot). is_transmit s.phase) slot_after;
         none_went = ap (λ (l : Trace). l.packets) trace_after;
         none_paid = ap (λ (l : Trace). l.payloads) trace_after;

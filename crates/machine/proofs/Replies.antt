@@ -2,7 +2,7 @@
 -- Assumes nothing.
 use Prim.Native.Nat.{ℕ, zero, suc, ◌+◌, ◌*◌, ◌/◌, ◌%◌, ◌^◌, ◌≤◌, ◌<◌}
 use mathlib.Core.Path.{◌≡◌, refl, sym, ap, ◌∙◌}
-use mathlib.Core.Bool.{Bool, true, false, not, ◌&&◌, ◌||◌}
+use mathlib.Core.Bool.{Bool, true, false, not, ◌&&◌, ◌||◌, and-false}
 use mathlib.Core.List.{List, [], ◌∷◌, ◌++◌}
 use native.Mathlib.Nat.{mod-eq_of_lt}
 use native.Mathlib.Omega.{arith}
@@ -11,12 +11,13 @@ use lib.Dec.{eqb, ltb}
 use lib.ListN.{length, drop, length-drop}
 use lib.Seq.{take-append_seam}
 use borrow.Author.Tests.{le-ltb, eq-eqb, ne_eqb, eqb-true, eqb-false, ltb-true, ltb-false, leb-true, not-true, not-false}
-use Rattle.std.specs.Prelude.{if◌then◌else◌}
+use Rattle.std.specs.Prelude.{Option, None, Some, Result, Ok, Err, if◌then◌else◌}
+use Rattle.std.specs.Option.{is_some}
 use Rattle.lent.specs.Bytes.{byte_at, is_set}
-use Rattle.lent.proofs.Choice.{if_ind, false_true, and_both, and_false}
+use Rattle.std.proofs.lemmas.Bool.{and_parts}
+use Rattle.lent.proofs.Choice.{if_ind, false_true}
 use Rattle.mctp.specs.Header.{read_header, same, fields, payload_of}
 use Rattle.mctp.specs.Gather.{is_cut}
-use Rattle.mctp.specs.declared.Read.TheVariants.{Packet}
 use Rattle.opening.specs.Opening.{opened}
 use Rattle.opening.specs.declared.First.{First}
 use Rattle.nvme_mi.specs.Message.{message_type, control, message_header, command_fault, control_fault, smallest, control_size}
@@ -24,21 +25,20 @@ use Rattle.nvme_mi.specs.Check.{check_right, with_check}
 use Rattle.nvme_mi.specs.Response.{response, fault_body}
 use Rattle.nvme_mi.specs.declared.MessageHeader.{MessageHeader}
 use Rattle.nvme_mi.specs.declared.Fault.{Fault}
-use Rattle.nvme_mi.specs.declared.Fault.TheVariants.{NoFault, Parameter, Failure}
-use Rattle.machine.specs.State.{World, Outcome, slot, slot_at, with_slot, with_endpoint, with_phase, with_busy, idled, held_in, outgoing, reply_sent, packet_sent}
+use Rattle.nvme_mi.specs.declared.Fault.TheVariants.{InvalidOpcode, Parameter}
+use Rattle.machine.specs.State.{World, Outcome, Done, slot, slot_at, with_slot, with_endpoint, with_phase, with_busy, idled, held_in, outgoing, reply_sent, packet_sent}
 use Rattle.machine.specs.Wire.{packet_room, inward, wrong_stores, opcode_of, clears_flags}
-use Rattle.machine.specs.Control.{bit, paused_slot, pause, pause_word, released, resumed_slot, resume, taken_word, abort_word, abort, state_number, state_word, clear_flags, replayed, replay, acted, primitive, replied, controlled_by, controlled}
+use Rattle.machine.specs.Control.{Acted, bit, paused_slot, pause, pause_word, released, resumed_slot, resume, taken_word, abort_word, abort, state_number, state_word, clear_flags, replayed, replay, acted, primitive, replied, controlled_by, controlled}
 use Rattle.machine.specs.Process.{request, processing, responded, responded_at_once, paused_if, entered}
 use Rattle.machine.specs.Receive.{refused, refused_busy, ended_slot, end_assembly, first_by, first, received}
-use Rattle.machine.specs.Finish.{is_slot, taken, presented, is_body, completed_by, completed, declared_by, was_declared, is_receive, timed_out, was_reset}
+use Rattle.machine.specs.Finish.{TakeDone, is_slot, taken, presented, is_body, completed_by, completed, declared_by, was_declared, is_receive, timed_out, was_reset}
 use Rattle.machine.specs.Poll.{Polled, other_slot, ready, control_packet, sent_control, command_packet, after_packet, sent_command, reply_first, polled_by, polled}
 use Rattle.machine.specs.Valid.{PhaseFacts, ValidFlags, Valid, Sound}
 use Rattle.machine.specs.Calls.{Call, receive, take!, read, complete, declare, poll, timeout, reset, number, handed_out, Stepped, stepped, by_outcome, take_event, by_poll, step}
 use Rattle.machine.specs.History.{has_som, source_of, message_tag_of, bytes_from4, phase_at, moved, unit_of, has_room, one?, run, start, control_tests, is_control, is_primitive, is_abort, cuts}
 use Rattle.machine.specs.Demands.{is_idle_now, reply_packet, AbortIdles}
 use Rattle.machine.specs.Replies.{PrimitiveDone, csi_of, no_cpsp, wrong_replay, is_error, slot_found, worth, aborted_process, aborted_in, state_of, cpsr_of, body_of, unpaused, sent_again, acted_on, flags_after, Replied, ControlReplied, is_control_out, SameReply, ReplyAfter, stays, goes, newer, by_reset, ReplyStays, ReplyFate, replaced, sent, replaces, polls_with_room, reply_fate, GoesWithin, ReplyGoes}
-use Rattle.machine.specs.Types.{Ticket, Assembly, Taking, Untaken, Taken, Request, Outgoing, Held, NoResponse, Last, Phase, Idle, Receive, Process, Answered, Transmit, Slot, Endpoint, Done, TakeAnswer, TakeDone, Presented, Unmatched, Matched, Ready, Nothing, From, Acted}
-use Rattle.machine.specs.declared.TakeAnswer.TheVariants.{Refused as TakeRefused, Given}
+use Rattle.machine.specs.Types.{Ticket, Assembly, Taking, Untaken, Taken, Request, Response, Outgoing, Phase, Idle, Receive, Process, Answered, Transmit, Slot, Reply, Endpoint}
 use Rattle.machine.proofs.Slots.{facts_at}
 use Rattle.machine.proofs.Cases.{take_cases}
 use Rattle.machine.proofs.Receiving.{filled, grown, whole, right_stores, Ground, in_table, of_control, of_no_slot, Break, in_sequence, in_size, in_total, Controls, Walk, walked, csi_most, receives_gathers}
@@ -222,8 +222,8 @@ module _ (m : List ℕ) (w : World) (v : Valid w.endpoint) where
   unfolding replay
   replays o = by (held_in (slot_at w.endpoint (csi_of m)).phase) refl
     where
-      by : (k : Held) → held_in (slot_at w.endpoint (csi_of m)).phase ≡ k → Acts (replayed w.endpoint (csi_of m) k)
-      by NoResponse e =
+      by : (k : Option Response) → held_in (slot_at w.endpoint (csi_of m)).phase ≡ k → Acts (replayed w.endpoint (csi_of m) k)
+      by None e =
           record {
             word = rw (o, e) refl;
             slots = λ j js. rw o (stays (which (csi_of m) j (csi_most m) js));
@@ -236,11 +236,11 @@ module _ (m : List ℕ) (w : World) (v : Valid w.endpoint) where
           stays : {j : ℕ} → Which (csi_of m) j → slot_at w.endpoint j ≡ (if not (eqb j (csi_of m)) then slot_at w.endpoint j else sent_again (held_in (slot_at w.endpoint j).phase) (slot_at w.endpoint j))
           stays (this q) = rw (q, itself, e) refl
           stays (that q) = rw (q, another) refl
-      by (Last r) e =
+      by (Some r) e =
           record {
             word = rw (o, e) refl;
             slots =
-                one_slot (with_phase (slot_at w.endpoint (csi_of m)) (Transmit (outgoing r 0))) (rw (o, itself) (ap (λ (k : Held). sent_again k (slot_at w.endpoint (csi_of m))) e))
+                one_slot (with_phase (slot_at w.endpoint (csi_of m)) (Transmit (outgoing r 0))) (rw (o, itself) (ap (λ (k : Option Response). sent_again k (slot_at w.endpoint (csi_of m))) e))
                 (rw (o, another) refl);
             flags = rw o refl;
             eid = refl;
@@ -279,6 +279,10 @@ break_not w p _ (in_sequence _) e = absurd (omega arith)
 break_not w p _ (in_size _) e = absurd (omega arith)
 break_not w p _ (in_total _) e = absurd (omega arith)
 
+-- the reply with this message to the sender of packet p, under its tag
+abbrev for_sender : List ℕ → List ℕ → Option Reply
+for_sender p message = Some (record { to = source_of p; tag = message_tag_of p; message = message })
+
 reply_bytes : (m body : List ℕ) → response control (message_header m).csi body ≡ with_check ((0x84 ∷ (128 + csi_of m) ∷ 0 ∷ 0 ∷ []) ++ body)
 unfolding response
 reply_bytes m body = let one : byte_at m 1 % 2 % 2 ≡ byte_at m 1 % 2 = mod-eq_of_lt (omega (arith, csi_most m)) in rw one refl
@@ -294,7 +298,7 @@ module _ (w₀ : World) (p : List ℕ) (s₀ : Sound w₀) where
   abbrev m : List ℕ
   m = payload_of p
 
-  abbrev by : Fault → World
+  abbrev by : Result (Unit {0}) Fault → World
   by f = with_endpoint found (controlled_by found.endpoint (fields p) (message_header m).csi m f)
 
   -- an error reply with these four bytes
@@ -302,10 +306,9 @@ module _ (w₀ : World) (p : List ℕ) (s₀ : Sound w₀) where
   unfolding end_assembly
   fails body err is =
       record {
-        waits = refl;
-        to = refl;
-        under = refl;
-        reply_is = reply_bytes m body ∙ ap (λ (b : List ℕ). with_check ((0x84 ∷ (128 + csi_of m) ∷ 0 ∷ 0 ∷ []) ++ b)) (sym (is _));
+        reply_is =
+            ap (for_sender p)
+            (reply_bytes m body ∙ ap (λ (b : List ℕ). with_check ((0x84 ∷ (128 + csi_of m) ∷ 0 ∷ 0 ∷ []) ++ b)) (sym (is _)));
         slots_are = λ j js. rw err (found_is w₀ p j js);
         flags_are = rw err refl;
         eid_is = refl;
@@ -316,7 +319,7 @@ module _ (w₀ : World) (p : List ℕ) (s₀ : Sound w₀) where
       }
 
   answers : (a b c d : Bool) → is_set (byte_at m 2) 0 ≡ a → is_set (byte_at m 2) 1 ≡ b → ltb 4 (byte_at m 4) ≡ c → wrong_replay m ≡ d
-      → Replied w₀ p (by (if a then Parameter 2 0 else if b then Parameter 2 1 else if c then Failure 3 else if d then Parameter 6 0 else NoFault))
+      → Replied w₀ p (by (if a then Err (Parameter 2 0) else if b then Err (Parameter 2 1) else if c then Err InvalidOpcode else if d then Err (Parameter 6 0) else Ok tt))
   unfolding end_assembly
   answers true b c d x y z u = fails (4 ∷ 0 ∷ 2 ∷ 0 ∷ []) (rw x refl) (λ _. rw x refl)
   answers false true c d x y z u = fails (4 ∷ 1 ∷ 2 ∷ 0 ∷ []) (rw (x, y) refl) (λ _. rw (x, y) refl)
@@ -325,14 +328,12 @@ module _ (w₀ : World) (p : List ℕ) (s₀ : Sound w₀) where
   answers false false false false x y z u =
       let k = primitive_acts m found found_valid z in
       let a = primitive found.endpoint (opcode_of m) (message_header m).csi (clears_flags m) in
-      let word : a.cpsr ≡ cpsr_of m (slot_found w₀ p (csi_of m)) w₀.endpoint.flags (by NoFault) = k.word ∙ ap (λ (s : Slot). cpsr_of m s w₀.endpoint.flags (by NoFault)) (found_is w₀ p (csi_of m) (csi_most m)) in
+      let word : a.cpsr ≡ cpsr_of m (slot_found w₀ p (csi_of m)) w₀.endpoint.flags (by (Ok tt)) = k.word ∙ ap (λ (s : Slot). cpsr_of m s w₀.endpoint.flags (by (Ok tt))) (found_is w₀ p (csi_of m) (csi_most m)) in
       record {
-        waits = refl;
-        to = refl;
-        under = refl;
         reply_is =
-            reply_bytes m (0 ∷ byte_at m 5 ∷ a.cpsr % 256 ∷ a.cpsr / 256 % 256 ∷ [])
-            ∙ rw (x, y, z, u) (ap (λ (n : ℕ). with_check (0x84 ∷ (128 + csi_of m) ∷ 0 ∷ 0 ∷ 0 ∷ byte_at m 5 ∷ n % 256 ∷ n / 256 % 256 ∷ [])) word);
+            ap (for_sender p)
+            (reply_bytes m (0 ∷ byte_at m 5 ∷ a.cpsr % 256 ∷ a.cpsr / 256 % 256 ∷ [])
+            ∙ rw (x, y, z, u) (ap (λ (n : ℕ). with_check (0x84 ∷ (128 + csi_of m) ∷ 0 ∷ 0 ∷ 0 ∷ byte_at m 5 ∷ n % 256 ∷ n / 256 % 256 ∷ [])) word));
         slots_are = λ j js. rw (x, y, z, u) (k.slots j js ∙ ap (acted_on m j) (found_is w₀ p j js));
         flags_are = rw (x, y, z, u) k.flags;
         eid_is = k.eid;
@@ -387,7 +388,7 @@ module _ (w₀ : World) (p : List ℕ) (s₀ : Sound w₀) where
   never b e f = false_true (sym e ∙ f)
 
   -- a primitive is read, and none of the tests that follow refuses it
-  is_read : Each (control_tests w₀.endpoint.eid p) → read_header w₀.endpoint.eid w₀.endpoint.unit inward p ≡ Packet (fields p)
+  is_read : Each (control_tests w₀.endpoint.eid p) → read_header w₀.endpoint.eid w₀.endpoint.unit inward p ≡ Ok (fields p)
   unfolding read_header
   is_read k =
       let fits : ltb (w₀.endpoint.unit + 4) 16 ≡ false = le-ltb (w₀.endpoint.unit + 4) 16 (omega (arith, s₀.state.numbers.unit_least)) in
@@ -414,7 +415,7 @@ module _ (w₀ : World) (p : List ℕ) (s₀ : Sound w₀) where
       if_ind By (not (fields p).eom || not (eqb (length m) control_size)) (never _ (rw (eom, twelve) refl))
       (λ _. if_ind By (not (check_right m)) (never _ (rw rest.1.1.1.0 refl)) (λ _. refl)))))))
     where
-      By : First → Type 0
+      By : Result First ℕ → Type 0
       By o = (first_by w (fields p) (payload_of p) o).answer ≡ 2
 
   done_so : Each (control_tests w₀.endpoint.eid p) → (received w₀ p).answer ≡ 2
@@ -445,24 +446,24 @@ pub acts : (opcode : ℕ) → opcode ≤ 3 → (w : World) (p : List ℕ) → So
     → Replied w p (received w p).world × (is_error (bytes_from4 p) ≡ false) × (byte_at (bytes_from4 p) 4 ≡ opcode)
 acts opcode few w p s h =
     acts_so opcode (omega arith) w p s h
-    (rw ((acting opcode w.endpoint.eid p h).opcode_is, ne_eqb opcode 4 (λ e. omega arith)) (and_false (not (no_cpsp (bytes_from4 p)))))
+    (rw ((acting opcode w.endpoint.eid p h).opcode_is, ne_eqb opcode 4 (λ e. omega arith)) (and-false (not (no_cpsp (bytes_from4 p)))))
 
 -- ---- what demand 3 excuses
 
-abort_idle : (w : World) → Sound w → (p : List ℕ) (i : ℕ) → i ≤ 1 → is_abort i w.endpoint.eid p ≡ true → phase_at (received w p).world i ≡ Idle NoResponse
+abort_idle : (w : World) → Sound w → (p : List ℕ) (i : ℕ) → i ≤ 1 → is_abort i w.endpoint.eid p ≡ true → phase_at (received w p).world i ≡ Idle None
 abort_idle w s p i is h =
-    let k = and_both (is_primitive 2 w.endpoint.eid p) (eqb (byte_at (bytes_from4 p) 1 % 2) i) h in
+    let k = and_parts (is_primitive 2 w.endpoint.eid p) (eqb (byte_at (bytes_from4 p) 1 % 2) i) h in
     let a = acts 2 (omega arith) w p s k.0 in
     let mine : eqb i (csi_of (bytes_from4 p)) ≡ true = eq-eqb i (csi_of (bytes_from4 p)) (sym (eqb-true (byte_at (bytes_from4 p) 1 % 2) i k.1)) in
     ap (λ (x : Slot). x.phase) (a.0.slots_are i is) ∙ rw (a.1, a.2, mine) refl
 
-reset_idle : (e : Endpoint) (i : ℕ) → i ≤ 1 → (slot_at (was_reset e).endpoint i).phase ≡ Idle NoResponse
+reset_idle : (e : Endpoint) (i : ℕ) → i ≤ 1 → (slot_at (was_reset e).endpoint i).phase ≡ Idle None
 unfolding was_reset
 reset_idle e zero is = refl
 reset_idle e (suc zero) is = refl
 reset_idle e (suc (suc n)) is = absurd (omega arith)
 
-pub cut_idle : (c : Call) (w : World) → Sound w → (i : ℕ) → i ≤ 1 → cuts i c w ≡ true → phase_at (step c w).world i ≡ Idle NoResponse
+pub cut_idle : (c : Call) (w : World) → Sound w → (i : ℕ) → i ≤ 1 → cuts i c w ≡ true → phase_at (step c w).world i ≡ Idle None
 unfolding step
 cut_idle (receive p) w s i is k = abort_idle w s p i is k
 cut_idle (take! j) w s i is k = false_true k
@@ -480,28 +481,18 @@ abort_idles eid unit store0 store1 a b xs c i is k = cut_idle c (run xs (start e
 
 -- the reply, and whether the last packet handed out was control
 record Part : Type 0 where
-  waits : Bool
-  reply : List ℕ
-  to : ℕ
-  tag : ℕ
+  reply : Option Reply
   eid : ℕ
   last : Bool
 
 abbrev part : Endpoint → Part
-part e = record { waits = e.reply_waits; reply = e.reply; to = e.reply_to; tag = e.reply_tag; eid = e.eid; last = e.last_control }
+part e = record { reply = e.reply; eid = e.eid; last = e.last_control }
 
 abbrev Still : Endpoint → Endpoint → Type 0
 Still e f = part f ≡ part e
 
 same_part : {e f : Endpoint} → Still e f → SameReply e f
-same_part k =
-    record {
-      same_waits = ap (λ (x : Part). x.waits) k;
-      same_reply = ap (λ (x : Part). x.reply) k;
-      same_to = ap (λ (x : Part). x.to) k;
-      same_tag = ap (λ (x : Part). x.tag) k;
-      same_eid = ap (λ (x : Part). x.eid) k;
-    }
+same_part k = record { same_reply = ap (λ (x : Part). x.reply) k; same_eid = ap (λ (x : Part). x.eid) k }
 
 responded_still : (w : World) (i : ℕ) (r : Request) (body : List ℕ) → Still w.endpoint (responded w i r body).endpoint
 unfolding responded
@@ -513,10 +504,9 @@ entered_still w i a mh =
     at_once (with_endpoint w (paused_if mh.ciap (with_slot w.endpoint i (processing (slot_at w.endpoint i) (request a mh))))) (command_fault mh a.length)
     ∙ if_ind (Still w.endpoint) mh.ciap (λ _. unfold pause in refl) (λ _. refl)
   where
-    at_once : (x : World) (f : Fault) → Still x.endpoint (responded_at_once x i (request a mh) f).endpoint
-    at_once x NoFault = refl
-    at_once x (Parameter byte bit) = responded_still x i (request a mh) (fault_body (Parameter byte bit))
-    at_once x (Failure status) = responded_still x i (request a mh) (fault_body (Failure status))
+    at_once : (x : World) (f : Result (Unit {0}) Fault) → Still x.endpoint (responded_at_once x i (request a mh) f).endpoint
+    at_once x (Ok none) = refl
+    at_once x (Err fault) = responded_still x i (request a mh) (fault_body (Err fault))
 
 taken_still : (e : Endpoint) (i : ℕ) → Still e (taken e i).endpoint
 taken_still e i = take_cases (λ (d : TakeDone). Still e d.endpoint) e i (λ _ _. refl) (λ _. refl)
@@ -528,17 +518,17 @@ completed_still w i t body = if_ind StillSo (wrong_stores w) (λ _. refl) (λ _.
     StillSo : Outcome → Type 0
     StillSo o = Still w.endpoint o.world.endpoint
 
-    by : (x : Presented) → StillSo (completed_by w i body x)
-    by (Unmatched n) = refl
-    by (Matched r) = if_ind StillSo (not (is_body body)) (λ _. refl) (λ _. responded_still w i r body)
+    by : (x : Result Request ℕ) → StillSo (completed_by w i body x)
+    by (Err n) = refl
+    by (Ok r) = if_ind StillSo (not (is_body body)) (λ _. refl) (λ _. responded_still w i r body)
 
 declared_still : (e : Endpoint) (i : ℕ) (t : Ticket) (can : Bool) → Still e (was_declared e i t can).endpoint
 unfolding was_declared
 declared_still e i t can = by (presented e i t)
   where
-    by : (x : Presented) → Still e (declared_by e i can x).endpoint
-    by (Unmatched n) = refl
-    by (Matched r) = refl
+    by : (x : Result Request ℕ) → Still e (declared_by e i can x).endpoint
+    by (Err n) = refl
+    by (Ok r) = refl
 
 timed_out_still : (e : Endpoint) (i : ℕ) → Still e (timed_out e i).endpoint
 unfolding timed_out
@@ -580,11 +570,11 @@ heard w p s =
 
 data PollDoes (w : World) (buffer : List ℕ) : Stepped → Type 0 where
   -- refused, or nothing to send
-  nothing : (n : ℕ) → (has_room w buffer ≡ true → w.endpoint.reply_waits ≡ false) → PollDoes w buffer (stepped (number n) w)
-  replies : w.endpoint.reply_waits ≡ true
-      → PollDoes w buffer (stepped (handed_out (control_packet w.endpoint)) (with_endpoint w (reply_sent w.endpoint)))
+  nothing : (n : ℕ) → (has_room w buffer ≡ true → w.endpoint.reply ≡ None) → PollDoes w buffer (stepped (number n) w)
+  replies : (r : Reply) → w.endpoint.reply ≡ Some r
+      → PollDoes w buffer (stepped (handed_out (control_packet w.endpoint r)) (with_endpoint w (reply_sent w.endpoint)))
   -- a command packet goes before a waiting reply only if the last packet was control
-  sends : (i : ℕ) (r : Outgoing) → Chosen w.endpoint i r → (w.endpoint.reply_waits ≡ true → w.endpoint.last_control ≡ true)
+  sends : (i : ℕ) (r : Outgoing) → Chosen w.endpoint i r → (is_some w.endpoint.reply ≡ true → w.endpoint.last_control ≡ true)
       → PollDoes w buffer
       (stepped (handed_out (command_packet w i r)) (with_endpoint w (packet_sent (with_slot w.endpoint i (after_packet w.endpoint.unit (slot_at w.endpoint i) r)) (other_slot i))))
 
@@ -594,40 +584,42 @@ poll_does w buffer s =
     rw (right_stores w s)
     (if_ind After (ltb (length buffer) (packet_room w.endpoint))
     (λ short. nothing 36 (λ room. absurd (omega (arith, ltb-true (length buffer) (packet_room w.endpoint) short, leb-true (unit_of w + 4) (length buffer) room))))
-    (λ room. by (ready w.endpoint) refl))
+    (λ room. by w.endpoint.reply refl (ready w.endpoint) refl))
   where
     After : Polled → Type 0
     After p = PollDoes w buffer (by_poll w p)
 
-    reply_goes : w.endpoint.reply_waits ≡ true → After (sent_control w.endpoint buffer)
-    reply_goes a =
-        unfold sent_control in (rw (take-append_seam (control_packet w.endpoint) (drop (length (control_packet w.endpoint)) buffer)) (replies a))
+    reply_goes : (r : Reply) → w.endpoint.reply ≡ Some r → After (sent_control w.endpoint r buffer)
+    reply_goes r a =
+        unfold sent_control in
+        (rw (take-append_seam (control_packet w.endpoint r) (drop (length (control_packet w.endpoint r)) buffer)) (replies r a))
 
-    command_goes : (i : ℕ) (r : Outgoing) → Chosen w.endpoint i r → reply_first w.endpoint ≡ false → After (sent_command w i r buffer)
-    command_goes i r c first =
+    command_goes : (i : ℕ) (r : Outgoing) → ready w.endpoint ≡ Some (i, r) → (is_some w.endpoint.reply ≡ true → w.endpoint.last_control ≡ true)
+        → After (sent_command w i r buffer)
+    command_goes i r e last =
         unfold sent_command in
-        (rw (take-append_seam (command_packet w i r) (drop (length (command_packet w i r)) buffer))
-        (sends i r c (λ waits. not-false w.endpoint.last_control (rw waits at first))))
+        (rw (take-append_seam (command_packet w i r) (drop (length (command_packet w i r)) buffer)) (sends i r (ready_at w.endpoint s.state e) last))
 
-    by : (x : Ready) → ready w.endpoint ≡ x → After (polled_by w buffer x)
-    by Nothing e = if_ind After w.endpoint.reply_waits reply_goes (λ none. nothing 0 (λ _. none))
-    by (From i r) e =
-        if_ind After (reply_first w.endpoint) (λ a. reply_goes (and_both w.endpoint.reply_waits (not w.endpoint.last_control) a).0)
-        (command_goes i r (ready_at w.endpoint s.state e))
+    by : (reply : Option Reply) → w.endpoint.reply ≡ reply → (x : Option (ℕ × Outgoing)) → ready w.endpoint ≡ x → After (polled_by w buffer reply x)
+    by None a None e = nothing 0 (λ _. a)
+    by None a (Some (i, r)) e = command_goes i r e (λ waits. false_true (sym (ap is_some a) ∙ waits))
+    by (Some reply) a None e = reply_goes reply a
+    by (Some reply) a (Some (i, r)) e =
+        if_ind After (reply_first w.endpoint) (λ _. reply_goes reply a) (λ first. command_goes i r e (λ _. not-false w.endpoint.last_control first))
 
 -- ---- what any call does
 
 data Effect (w : World) : Call → Stepped → Type 0 where
   -- the reply stays, and so does what polling goes by; if it waits, the call is no poll with room
-  keeps : {c : Call} {s : Stepped} → replaces c s.event ≡ false → is_control_out w s ≡ false → Still w.endpoint s.world.endpoint → (w.endpoint.reply_waits ≡ true → polls_with_room c w ≡ false)
+  keeps : {c : Call} {s : Stepped} → replaces c s.event ≡ false → is_control_out w s ≡ false → Still w.endpoint s.world.endpoint → (is_some w.endpoint.reply ≡ true → polls_with_room c w ≡ false)
       → Effect w c s
   -- a command packet goes: the next is the reply
   passes : {buffer : List ℕ} {s : Stepped} → is_control_out w s ≡ false → SameReply w.endpoint s.world.endpoint
-      → (w.endpoint.reply_waits ≡ true → w.endpoint.last_control ≡ true) → s.world.endpoint.last_control ≡ false → Effect w (poll buffer) s
-  sends_it : {buffer : List ℕ} {s : Stepped} → w.endpoint.reply_waits ≡ true → is_control_out w s ≡ true
-      → s.event ≡ handed_out (reply_packet w.endpoint) → s.world.endpoint.reply_waits ≡ false → Effect w (poll buffer) s
+      → (is_some w.endpoint.reply ≡ true → w.endpoint.last_control ≡ true) → s.world.endpoint.last_control ≡ false → Effect w (poll buffer) s
+  sends_it : {buffer : List ℕ} {s : Stepped} → is_some w.endpoint.reply ≡ true → is_control_out w s ≡ true
+      → s.event ≡ handed_out (reply_packet w.endpoint) → s.world.endpoint.reply ≡ None → Effect w (poll buffer) s
   renews : {p : List ℕ} {s : Stepped} → is_control_out w s ≡ false → s.event ≡ number 2 → Effect w (receive p) s
-  resets : {s : Stepped} → is_control_out w s ≡ false → s.world.endpoint.reply_waits ≡ false → Effect w reset s
+  resets : {s : Stepped} → is_control_out w s ≡ false → s.world.endpoint.reply ≡ None → Effect w reset s
 
 -- a packet of a slot is no control packet
 of_slot : (w after : World) (bytes : List ℕ) (i : ℕ) → i ≤ 1 → moved (phase_at w i) (phase_at after i) ≡ true → is_control_out w (stepped (handed_out bytes) after) ≡ false
@@ -640,23 +632,23 @@ of_slot w after bytes (suc zero) is h = rw h (by (moved (phase_at w 0) (phase_at
 of_slot w after bytes (suc (suc n)) is h = absurd (omega arith)
 
 poll_effect : (w : World) (buffer : List ℕ) → Sound w → {s : Stepped} → PollDoes w buffer s → Effect w (poll buffer) s
-poll_effect w buffer v (nothing n none) = keeps refl refl refl (λ waits. by (has_room w buffer) (λ room. sym (none room) ∙ waits))
+poll_effect w buffer v (nothing n none) = keeps refl refl refl (λ waits. by (has_room w buffer) (λ room. sym (ap is_some (none room)) ∙ waits))
   where
     by : (b : Bool) → (b ≡ true → false ≡ true) → b ≡ false
     by true k = false_true (k refl)
     by false k = refl
-poll_effect w buffer v (replies waits) =
-    let out : is_control_out w (stepped (handed_out (control_packet w.endpoint)) (with_endpoint w (reply_sent w.endpoint))) ≡ true =
+poll_effect w buffer v (replies r is) =
+    let out : is_control_out w (stepped (handed_out (control_packet w.endpoint r)) (with_endpoint w (reply_sent w.endpoint))) ≡ true =
     rw (moved_same (phase_at w 0), moved_same (phase_at w 1)) refl in
-    let gone : (reply_sent w.endpoint).reply_waits ≡ false = refl in
-    sends_it waits out (ap handed_out (reply_packet_lem w.endpoint v.state)) gone
+    let gone : (reply_sent w.endpoint).reply ≡ None = refl in
+    sends_it (ap is_some is) out (ap handed_out (reply_packet_lem w.endpoint r is v.state)) gone
 poll_effect w buffer v (sends i r c last) =
     let t = after_packet w.endpoint.unit (slot_at w.endpoint i) r in
     let after = with_endpoint w (packet_sent (with_slot w.endpoint i t) (other_slot i)) in
     let there : phase_at after i ≡ t.phase = ap (λ (x : Slot). x.phase) (slot_this i c.slot_is v.state t) in
     let went : moved (phase_at w i) (phase_at after i) ≡ true =
     ap (λ (x : Phase). moved (phase_at w i) x) there ∙ ap (λ (x : Phase). moved x t.phase) c.sends ∙ onward_moves (onward w.endpoint.unit (slot_at w.endpoint i) r) in
-    let same : SameReply w.endpoint after.endpoint = record { same_waits = refl; same_reply = refl; same_to = refl; same_tag = refl; same_eid = refl } in
+    let same : SameReply w.endpoint after.endpoint = record { same_reply = refl; same_eid = refl } in
     let turns : after.endpoint.last_control ≡ false = refl in
     passes (of_slot w after (command_packet w i r) i c.slot_is went) same last turns
 
@@ -669,15 +661,15 @@ effect (receive p) w v = by (heard w p v)
     by (done e) = renews refl (ap number e)
 effect (take! i) w v = keeps refl (by (taken w.endpoint i).answer (with_endpoint w (taken w.endpoint i).endpoint)) (taken_still w.endpoint i) (λ _. refl)
   where
-    by : (a : TakeAnswer) (after : World) → is_control_out w (stepped (take_event a) after) ≡ false
-    by (TakeRefused n) after = refl
-    by (Given t) after = refl
+    by : (a : Result Ticket ℕ) (after : World) → is_control_out w (stepped (take_event a) after) ≡ false
+    by (Err n) after = refl
+    by (Ok t) after = refl
 effect (read i) w v = keeps refl refl refl (λ _. refl)
 effect (complete i t body) w v = keeps refl refl (completed_still w i t body) (λ _. refl)
 effect (declare i t can) w v = keeps refl refl (declared_still w.endpoint i t can) (λ _. refl)
 effect (poll buffer) w v = poll_effect w buffer v (unfold step in (poll_does w buffer v))
 effect (timeout i) w v = keeps refl refl (timed_out_still w.endpoint i) (λ _. refl)
-effect reset w v = unfold was_reset in (let gone : (was_reset w.endpoint).endpoint.reply_waits ≡ false = refl in resets refl gone)
+effect reset w v = unfold was_reset in (let gone : (was_reset w.endpoint).endpoint.reply ≡ None = refl in resets refl gone)
 
 pub reply_stays : ReplyStays
 reply_stays c w v = by (effect c w v)
@@ -691,7 +683,7 @@ reply_stays c w v = by (effect c w v)
 
 -- ---- along a list
 
-module _ (e : Endpoint) (first : e.reply_waits ≡ true) where
+module _ (e : Endpoint) (first : is_some e.reply ≡ true) where
   -- after n polls with room the reply waits still, and after one the next packet is the reply
   record Waiting (n : ℕ) (w : World) : Type 0 where
     sound : Sound w
@@ -704,17 +696,10 @@ module _ (e : Endpoint) (first : e.reply_waits ≡ true) where
 
   -- the same packet
   same_packet : {f : Endpoint} → SameReply e f → reply_packet f ≡ reply_packet e
-  same_packet k = rw (k.same_to, k.same_eid, k.same_tag, k.same_reply) refl
+  same_packet k = rw (k.same_eid, k.same_reply) refl
 
   still_same : {f g : Endpoint} → SameReply e f → SameReply f g → SameReply e g
-  still_same a b =
-      record {
-        same_waits = b.same_waits ∙ a.same_waits;
-        same_reply = b.same_reply ∙ a.same_reply;
-        same_to = b.same_to ∙ a.same_to;
-        same_tag = b.same_tag ∙ a.same_tag;
-        same_eid = b.same_eid ∙ a.same_eid;
-      }
+  still_same a b = record { same_reply = b.same_reply ∙ a.same_reply; same_eid = b.same_eid ∙ a.same_eid }
 
   one_most : (b : Bool) → one? b ≤ 1
   one_most true = omega arith
@@ -730,7 +715,7 @@ module _ (e : Endpoint) (first : e.reply_waits ≡ true) where
       → (Waiting (n + one? (polls_with_room c w)) s.world → Goes rest)
       → Goes (if replaces c s.event then replaced else if is_control_out w s then sent (n + one? (polls_with_room c w)) s.event else rest)
   goes_on {c} {s} n w rest k v (keeps old out same none) more =
-      let quiet : one? (polls_with_room c w) ≡ 0 = rw (none (k.same.same_waits ∙ first)) refl in
+      let quiet : one? (polls_with_room c w) ≡ 0 = rw (none (ap is_some k.same.same_reply ∙ first)) refl in
       rw (old, out)
       (more
       (record {
@@ -740,7 +725,7 @@ module _ (e : Endpoint) (first : e.reply_waits ≡ true) where
         turned = λ one. ap (λ (x : Part). x.last) same ∙ k.turned (omega (arith, quiet, one));
       }))
   goes_on n w rest k v (passes {buffer} out same was now) more =
-      let none : n ≡ 1 → ⊥ = λ one. false_true (sym (k.turned one) ∙ was (k.same.same_waits ∙ first)) in
+      let none : n ≡ 1 → ⊥ = λ one. false_true (sym (k.turned one) ∙ was (ap is_some k.same.same_reply ∙ first)) in
       rw out
       (more
       (record {
@@ -768,7 +753,7 @@ reply_goes eid unit store0 store1 a b xs waits ys =
     goes_within h.world.endpoint waits ys 0 h.world
     (record {
       sound = g.sound;
-      same = record { same_waits = refl; same_reply = refl; same_to = refl; same_tag = refl; same_eid = refl };
+      same = record { same_reply = refl; same_eid = refl };
       most = omega arith;
       turned = λ e. absurd (omega arith);
     })

@@ -2,19 +2,21 @@
 -- Assumes nothing.
 use Prim.Native.Nat.{ℕ, zero, suc, ◌≤◌}
 use mathlib.Core.Path.{◌≡◌, refl, sym, ap}
-use mathlib.Core.Bool.{Bool, true, false, not}
+use mathlib.Core.Bool.{Bool, true, false}
 use mathlib.Core.List.{List}
 use native.Mathlib.Omega.{arith}
 use lib.Dec.{eqb}
 use lib.ListN.{get_or}
-use borrow.Author.Tests.{eqb-true, eq-eqb}
-use Rattle.std.specs.Prelude.{if◌then◌else◌}
-use Rattle.lent.proofs.Choice.{if_ind, if_second, and_both, differ}
+use borrow.Author.Tests.{eqb-true, eq-eqb, not-true}
+use Rattle.std.specs.Prelude.{Option, None, Some, if◌then◌else◌}
+use Rattle.std.proofs.lemmas.Option.{same_Some}
+use Rattle.std.proofs.lemmas.Bool.{and_parts}
+use Rattle.lent.proofs.Choice.{if_ind, if_second, differ}
 use Rattle.machine.specs.State.{fresh, ticket, idled, held_in, slot_at, is_idle}
 use Rattle.machine.specs.Receive.{is_from, gathers, holder, holder_in, end_assembly, ended_slot}
 use Rattle.machine.specs.Poll.{other_slot}
 use Rattle.machine.specs.Valid.{phased, apart, PhaseFacts, ValidSlot, ValidSlots, two, Valid}
-use Rattle.machine.specs.Types.{Assembly, Response, NoResponse, Last, Phase, Idle, Receive, Process, Answered, Transmit, Slot, Endpoint, Holder, Nowhere, At}
+use Rattle.machine.specs.Types.{Assembly, Response, Phase, Idle, Receive, Process, Answered, Transmit, Slot, Endpoint}
 
 -- Idle or Receive: no command of this slot is in Process or Transmit
 abbrev pub is_early : Phase → Bool
@@ -28,14 +30,14 @@ idle_early (Answered r) h = h
 idle_early (Transmit r) h = h
 
 -- only an Idle slot holds a response
-pub held_idle : (p : Phase) (r : Response) → held_in p ≡ Last r → p ≡ Idle (Last r)
+pub held_idle : (p : Phase) (r : Response) → held_in p ≡ Some r → p ≡ Idle (Some r)
 held_idle (Idle held) r e = ap Idle e
 held_idle (Receive a) r e = differ (cc e)
 held_idle (Process x) r e = differ (cc e)
 held_idle (Answered x) r e = differ (cc e)
 held_idle (Transmit x) r e = differ (cc e)
 
-pub held_not : {A : Type 0} {r : Response} → Idle NoResponse ≡ Idle (Last r) → A
+pub held_not : {A : Type 0} {r : Response} → Idle None ≡ Idle (Some r) → A
 held_not e = differ (cc e)
 
 -- ---- a slot by its number
@@ -52,7 +54,7 @@ facts_at i h v = (slot_facts i h v.slots_valid).phase_facts
 
 pub from_same : (source tag : ℕ) (a : Assembly) → is_from source tag a ≡ true → (a.source ≡ source) × (a.tag ≡ tag)
 from_same source tag a h =
-    let k = and_both (eqb a.source source) (eqb a.tag tag) h in
+    let k = and_parts (eqb a.source source) (eqb a.tag tag) h in
     (eqb-true a.source source k.0, eqb-true a.tag tag k.1)
 
 -- the same test, seen from the other assembly
@@ -85,13 +87,9 @@ pub apart_new_right : (p : Phase) (b : Assembly) → gathers b.source b.tag p �
 apart_new_right p b h = rw h refl
 
 -- the other slot does not gather under an assembly's source and tag
-not_true : (b : Bool) → not b ≡ true → b ≡ false
-not_true true e = sym e
-not_true false e = refl
-
 other_apart : (a : Assembly) (q : Phase) → apart (Receive a) q ≡ true → gathers a.source a.tag q ≡ false
 other_apart a (Idle held) h = refl
-other_apart a (Receive b) h = from_sym b a (not_true (is_from b.source b.tag a) h)
+other_apart a (Receive b) h = from_sym b a (not-true (is_from b.source b.tag a) h)
 other_apart a (Process r) h = refl
 other_apart a (Answered r) h = refl
 other_apart a (Transmit r) h = refl
@@ -100,7 +98,7 @@ other_apart a (Transmit r) h = refl
 alone : {unit turn : ℕ} {l : List Slot} (i : ℕ) → i ≤ 1 → ValidSlots unit turn l → (a : Assembly) → (get_or l i (fresh (ticket 0))).phase ≡ Receive a
     → gathers a.source a.tag (get_or l (other_slot i) (fresh (ticket 0))).phase ≡ false
 alone zero h (two {s} {t} vs vt k) a e = other_apart a t.phase (rw e at k)
-alone (suc zero) h (two {s} {t} vs vt k) a e = not_true (gathers a.source a.tag s.phase) (rw e at k)
+alone (suc zero) h (two {s} {t} vs vt k) a e = not-true (gathers a.source a.tag s.phase) (rw e at k)
 alone (suc (suc n)) h v a e = absurd (omega arith)
 
 pub alone_at : {e : Endpoint} (i : ℕ) → i ≤ 1 → Valid e → (a : Assembly) → (slot_at e i).phase ≡ Receive a
@@ -114,48 +112,54 @@ pub record Holds (e : Endpoint) (source tag i : ℕ) (a : Assembly) : Type 0 whe
   pub gathers_it : (slot_at e i).phase ≡ Receive a
   pub from_it : is_from source tag a ≡ true
 
--- where `holder_in` found it
-data Where (source tag k : ℕ) (p : Phase) (other : Holder) (i : ℕ) (a : Assembly) : Type 0 where
-  here : k ≡ i → p ≡ Receive a → is_from source tag a ≡ true → Where source tag k p other i a
-  there : other ≡ At i a → Where source tag k p other i a
+-- a slot that was found, with what it holds, was found once
+pub same_found : {A : Type 0} {i k : ℕ} {x y : A} → ◌≡◌ {A = Option (ℕ × A)} (Some (i, x)) (Some (k, y)) → (i ≡ k) × (x ≡ y)
+same_found {A} {i} {k} {x} {y} e =
+    let p : ◌≡◌ {A = ℕ × A} (i, x) (k, y) = same_Some (i, x) (k, y) e in
+    (ap (λ (q : ℕ × A). q.0) p, ap (λ (q : ℕ × A). q.1) p)
 
-holder_in_lem : (source tag k : ℕ) (p : Phase) (other : Holder) {i : ℕ} {a : Assembly} → holder_in source tag k p other ≡ At i a
+-- where `holder_in` found it
+data Where (source tag k : ℕ) (p : Phase) (other : Option (ℕ × Assembly)) (i : ℕ) (a : Assembly) : Type 0 where
+  here : k ≡ i → p ≡ Receive a → is_from source tag a ≡ true → Where source tag k p other i a
+  there : other ≡ Some (i, a) → Where source tag k p other i a
+
+holder_in_lem : (source tag k : ℕ) (p : Phase) (other : Option (ℕ × Assembly)) {i : ℕ} {a : Assembly} → holder_in source tag k p other ≡ Some (i, a)
     → Where source tag k p other i a
 holder_in_lem source tag k (Idle held) other e = there e
 holder_in_lem source tag k (Receive b) other {i} {a} e = go (is_from source tag b) refl e
   where
-    go : (t : Bool) → is_from source tag b ≡ t → ◌≡◌ {A = Holder} (if t then At k b else other) (At i a) → Where source tag k (Receive b) other i a
-    go true f g = here (cc) (cc) (cc)
+    go : (t : Bool) → is_from source tag b ≡ t → ◌≡◌ {A = Option (ℕ × Assembly)} (if t then Some (k, b) else other) (Some (i, a)) → Where source tag k (Receive b) other i a
+    go true f g = let same = same_found g in here same.0 (ap Receive same.1) (rw (sym same.1) f)
     go false f g = there g
 holder_in_lem source tag k (Process r) other e = there e
 holder_in_lem source tag k (Answered r) other e = there e
 holder_in_lem source tag k (Transmit r) other e = there e
 
-pub holder_at : (e : Endpoint) (source tag : ℕ) {i : ℕ} {a : Assembly} → holder e source tag ≡ At i a → Holds e source tag i a
+pub holder_at : (e : Endpoint) (source tag : ℕ) {i : ℕ} {a : Assembly} → holder e source tag ≡ Some (i, a) → Holds e source tag i a
 unfolding holder
-holder_at e source tag {i} {a} h = outer (holder_in_lem source tag 0 (slot_at e 0).phase (holder_in source tag 1 (slot_at e 1).phase Nowhere) h)
+holder_at e source tag {i} {a} h = outer (holder_in_lem source tag 0 (slot_at e 0).phase (holder_in source tag 1 (slot_at e 1).phase None) h)
   where
-    inner : Where source tag 1 (slot_at e 1).phase Nowhere i a → Holds e source tag i a
+    inner : Where source tag 1 (slot_at e 1).phase None i a → Holds e source tag i a
     inner (here k p f) = rw (sym k) (record { slot_is = omega arith; gathers_it = p; from_it = f })
     inner (there n) = differ (cc n)
 
-    outer : Where source tag 0 (slot_at e 0).phase (holder_in source tag 1 (slot_at e 1).phase Nowhere) i a → Holds e source tag i a
+    outer : Where source tag 0 (slot_at e 0).phase (holder_in source tag 1 (slot_at e 1).phase None) i a → Holds e source tag i a
     outer (here k p f) = rw (sym k) (record { slot_is = omega arith; gathers_it = p; from_it = f })
-    outer (there n) = inner (holder_in_lem source tag 1 (slot_at e 1).phase Nowhere n)
+    outer (there n) = inner (holder_in_lem source tag 1 (slot_at e 1).phase None n)
 
 -- where `holder_in` found none
-none_in : (source tag k : ℕ) (p : Phase) (other : Holder) → holder_in source tag k p other ≡ Nowhere → (gathers source tag p ≡ false) × (other ≡ Nowhere)
+none_in : (source tag k : ℕ) (p : Phase) (other : Option (ℕ × Assembly)) → holder_in source tag k p other ≡ None → (gathers source tag p ≡ false) × (other ≡ None)
 none_in source tag k (Idle held) other e = (refl, e)
 none_in source tag k (Receive a) other e = if_second (is_from source tag a) (λ n. differ (cc n)) e
 none_in source tag k (Process r) other e = (refl, e)
 none_in source tag k (Answered r) other e = (refl, e)
 none_in source tag k (Transmit r) other e = (refl, e)
 
-pub holder_none : (e : Endpoint) (source tag : ℕ) → holder e source tag ≡ Nowhere → (i : ℕ) → i ≤ 1 → gathers source tag (slot_at e i).phase ≡ false
+pub holder_none : (e : Endpoint) (source tag : ℕ) → holder e source tag ≡ None → (i : ℕ) → i ≤ 1 → gathers source tag (slot_at e i).phase ≡ false
 unfolding holder
-holder_none e source tag h zero is = (none_in source tag 0 (slot_at e 0).phase (holder_in source tag 1 (slot_at e 1).phase Nowhere) h).0
+holder_none e source tag h zero is = (none_in source tag 0 (slot_at e 0).phase (holder_in source tag 1 (slot_at e 1).phase None) h).0
 holder_none e source tag h (suc zero) is =
-    (none_in source tag 1 (slot_at e 1).phase Nowhere (none_in source tag 0 (slot_at e 0).phase (holder_in source tag 1 (slot_at e 1).phase Nowhere) h).1).0
+    (none_in source tag 1 (slot_at e 1).phase None (none_in source tag 0 (slot_at e 0).phase (holder_in source tag 1 (slot_at e 1).phase None) h).1).0
 holder_none e source tag h (suc (suc n)) is = absurd (omega arith)
 
 -- once an assembly has ended, neither slot gathers under its source and tag

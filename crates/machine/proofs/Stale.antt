@@ -11,7 +11,7 @@ use Rattle.machine.specs.Calls.{Call, receive, complete, poll, number, step}
 use Rattle.machine.specs.History.{History, phase_at, trace_after, next, run, start, cuts}
 use Rattle.machine.specs.Demands.{is_process, completes}
 use Rattle.machine.specs.Stale.{present_ticket, StaleRefused, CutStays, FixedBy, at_entry, by_completion, NeverStale}
-use Rattle.machine.specs.Types.{NoResponse, Idle}
+use Rattle.machine.specs.Types.{Idle}
 use Rattle.machine.proofs.Slots.{is_early}
 use Rattle.machine.proofs.Fits.{Entry, entered, stayed}
 use Rattle.machine.proofs.Histories.{Good, kept_by, good_next, good_run, good_start, good_every}
@@ -19,6 +19,7 @@ use Rattle.machine.proofs.Tickets.{not_older, other_refused, accepted, answer_be
 use Rattle.machine.proofs.Lists.{longer, along, then_trace, then_present}
 use Rattle.machine.proofs.Replies.{cut_idle}
 use Rattle.machine.proofs.Responses.{Turned, kept, came_in, answered, turned}
+use Rattle.std.specs.Prelude.{None}
 
 -- ---- any other ticket
 
@@ -51,7 +52,7 @@ cut_out : (i : ℕ) → i ≤ 1 → (c : Call) (h : History) → Good h → cuts
 unfolding next
 cut_out i is c h g k = by (kept_by c h g i is).entry
   where
-    idle : phase_at (step c h.world).world i ≡ Idle NoResponse
+    idle : phase_at (step c h.world).world i ≡ Idle None
     idle = cut_idle c h.world g.sound i is k
 
     by : Entry (phase_at h.world i) (phase_at (step c h.world).world i) (h.trace i) (trace_after i c h.world (step c h.world) (h.trace i))

@@ -3,17 +3,18 @@
 -- Assumes nothing.
 use Prim.Native.Nat.{ℕ, ◌%◌, ◌≤◌}
 use mathlib.Core.Path.{◌≡◌, refl, sym, ap, ◌∙◌}
-use mathlib.Core.Bool.{Bool, true, false, not, ◌||◌}
+use mathlib.Core.Bool.{Bool, true, false, not, ◌||◌, and-false}
 use mathlib.Core.List.{List, [], ◌∷◌, ◌++◌}
 use native.Mathlib.Omega.{arith}
 use lib.Dec.{eqb}
 use lib.ListN.{length}
 use borrow.Author.Tests.{eq-eqb, eqb-true}
-use Rattle.std.specs.Prelude.{if◌then◌else◌}
+use Rattle.std.specs.Prelude.{None, Ok, if◌then◌else◌}
 use Rattle.lent.specs.Bytes.{byte_at}
-use Rattle.lent.proofs.Choice.{and_both, and_false, false_true, differ}
+use Rattle.std.proofs.lemmas.Bool.{and_parts}
+use Rattle.lent.proofs.Choice.{false_true, differ}
 use Rattle.nvme_mi.specs.Check.{with_check}
-use Rattle.machine.specs.State.{World, slot_at}
+use Rattle.machine.specs.State.{World, slot_at, reply_message}
 use Rattle.machine.specs.Receive.{received}
 use Rattle.machine.specs.Finish.{presented, was_declared}
 use Rattle.machine.specs.Valid.{phased}
@@ -22,7 +23,7 @@ use Rattle.machine.specs.History.{Trace, History, bytes_from4, source_of, messag
 use Rattle.machine.specs.Demands.{is_process, declares}
 use Rattle.machine.specs.Replies.{csi_of, no_cpsp, slot_found, aborted_process, aborted_in, cpsr_of, reply_of}
 use Rattle.machine.specs.Stopping.{taking_since, MarkIs, NotRevoked, no_call, one_more, DeclaredBy, by_declaration, MarkOwn, DeclareMarks, told_of, abort_told, AbortTells, NoEffect, never_taken, still_can, ToldStopped}
-use Rattle.machine.specs.Types.{Ticket, Taking, Untaken, Taken, Request, NoResponse, Phase, Idle, Receive, Process, Answered, Transmit, Endpoint, Matched}
+use Rattle.machine.specs.Types.{Ticket, Taking, Untaken, Taken, Request, Phase, Idle, Receive, Process, Answered, Transmit, Endpoint}
 use Rattle.machine.proofs.Cases.{Match}
 use Rattle.machine.proofs.Fits.{takes_of, mark_of}
 use Rattle.machine.proofs.Traces.{Adds, nothing, a_payload, an_entry, a_take, a_completion, a_declaration, adds, sent_cases}
@@ -147,7 +148,7 @@ mark_own eid unit store0 store1 a b xs i is r p u =
 
 -- ---- a declaration
 
-matched_is : (e : Endpoint) (i : ℕ) (t : Ticket) (k : Match e i t) → presented e i t ≡ Matched k.request
+matched_is : (e : Endpoint) (i : ℕ) (t : Ticket) (k : Match e i t) → presented e i t ≡ Ok k.request
 unfolding presented
 matched_is e i t k = rw (slot_yes i k.slot_is, k.in_process, eq-eqb t.0 (slot_at e i).ticket.0 k.present, k.was_taken) refl
 
@@ -180,10 +181,10 @@ module _ (h : History) (g : Good h) (p : List ℕ) (i : ℕ) (is : i ≤ 1) wher
   found_process : (r : Request) → (slot_found h.world p i).phase ≡ Process r → phase_at h.world i ≡ Process r
   found_process r = by (receives_from (source_of p) (message_tag_of p) (phase_at h.world i))
     where
-      idle_not : {A : Type 0} → Idle NoResponse ≡ Process r → A
+      idle_not : {A : Type 0} → Idle None ≡ Process r → A
       idle_not e = differ (cc e)
 
-      by : (x : Bool) → (if x then record { ticket = (slot_at h.world.endpoint i).ticket; paused = false; busy = (slot_at h.world.endpoint i).busy; phase = Idle NoResponse } else slot_at h.world.endpoint i).phase ≡ Process r
+      by : (x : Bool) → (if x then record { ticket = (slot_at h.world.endpoint i).ticket; paused = false; busy = (slot_at h.world.endpoint i).busy; phase = Idle None } else slot_at h.world.endpoint i).phase ≡ Process r
           → phase_at h.world i ≡ Process r
       by true e = idle_not e
       by false e = e
@@ -199,13 +200,13 @@ module _ (h : History) (g : Good h) (p : List ℕ) (i : ℕ) (is : i ≤ 1) wher
       by (Transmit r) e = refl
 
   abort_replied : is_abort i h.world.endpoint.eid p ≡ true
-      → ((received h.world p).answer ≡ 2) × ((received h.world p).world.endpoint.reply ≡ reply_of (bytes_from4 p) (abort_told h p i))
+      → ((received h.world p).answer ≡ 2) × (reply_message (received h.world p).world.endpoint.reply ≡ reply_of (bytes_from4 p) (abort_told h p i))
   abort_replied k =
-      let q = and_both (is_primitive 2 h.world.endpoint.eid p) (eqb (byte_at (bytes_from4 p) 1 % 2) i) k in
+      let q = and_parts (is_primitive 2 h.world.endpoint.eid p) (eqb (byte_at (bytes_from4 p) 1 % 2) i) k in
       let a = acts 2 (omega arith) h.world p g.sound q.0 in
       let mine : csi_of (bytes_from4 p) ≡ i = eqb-true (byte_at (bytes_from4 p) 1 % 2) i q.1 in (
         eqb-true (received h.world p).answer 2 (primitive_done h.world p g.sound ∙ (acting 2 h.world.endpoint.eid p q.0).whole),
-        a.0.reply_is ∙ ap (reply_of (bytes_from4 p)) (cpsr (received h.world p).world a.2 mine ∙ told),
+        ap reply_message a.0.reply_is ∙ ap (reply_of (bytes_from4 p)) (cpsr (received h.world p).world a.2 mine ∙ told),
       )
     where
       cpsr : (after : World) → byte_at (bytes_from4 p) 4 ≡ 2 → csi_of (bytes_from4 p) ≡ i
@@ -223,7 +224,7 @@ abort_tells eid unit store0 store1 a b xs p i is k =
 -- byte 6 of an Abort's reply is the low byte of CPSR
 low_byte : (eid : ℕ) (p : List ℕ) (n : ℕ) → Acting 2 eid p → byte_at (reply_of (bytes_from4 p) n) 6 ≡ n % 256
 unfolding with_check
-low_byte eid p n a = rw (a.meb, a.ciap, a.opcode_is, and_false (not (no_cpsp (bytes_from4 p)))) refl
+low_byte eid p n a = rw (a.meb, a.ciap, a.opcode_is, and-false (not (no_cpsp (bytes_from4 p)))) refl
 
 -- of a slot in Process the Abort tells by the history
 told_busy : (h : History) (p : List ℕ) (i : ℕ) → is_process (phase_at h.world i) ≡ true → abort_told h p i ≡ told_of (h.trace i)
@@ -249,7 +250,7 @@ pub told_stopped : ToldStopped
 told_stopped eid unit store0 store1 a b xs p i is k busy one =
     let h₀ = start eid unit store0 store1 in
     let h = run xs h₀ in
-    let acts = acting 2 h.world.endpoint.eid p (and_both (is_primitive 2 h.world.endpoint.eid p) (eqb (byte_at (bytes_from4 p) 1 % 2) i) k).0 in
+    let acts = acting 2 h.world.endpoint.eid p (and_parts (is_primitive 2 h.world.endpoint.eid p) (eqb (byte_at (bytes_from4 p) 1 % 2) i) k).0 in
     let reply = (abort_tells eid unit store0 store1 a b xs p i is k).1 in
     let word : told_of (h.trace i) % 256 ≡ 1 =
     ap (λ (n : ℕ). n % 256) (sym (told_busy h p i busy)) ∙ sym (low_byte h.world.endpoint.eid p (abort_told h p i) acts) ∙ ap (λ (s : List ℕ). byte_at s 6) (sym reply) ∙ one in

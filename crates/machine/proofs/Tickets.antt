@@ -1,26 +1,29 @@
 -- Demand 2's ticket rule on lists of calls: a completion or declaration that is accepted is for the command that its ticket was taken for, and every packet
 -- that leaves is of the response fixed for its slot's last entry into Process.
 -- Assumes nothing.
-use Prim.Native.Nat.{ℕ, zero, suc, ◌+◌, ◌%◌, ◌^◌, ◌≤◌, ◌<◌}
+use Prim.Native.Nat.{ℕ, ◌+◌, ◌%◌, ◌^◌, ◌≤◌, ◌<◌}
 use mathlib.Core.Path.{◌≡◌, refl, sym, ap, ◌∙◌}
 use mathlib.Core.Bool.{Bool, true, false, not, ◌&&◌}
 use mathlib.Core.List.{List, [], ◌∷◌}
 use native.Mathlib.Omega.{arith}
 use lib.Dec.{eqb}
-use borrow.Author.Tests.{eq-eqb, ne_eqb, not-true}
-use Rattle.std.specs.Prelude.{if◌then◌else◌}
-use Rattle.lent.proofs.Choice.{if_ind, false_true, and_both, differ}
+use lib.ListN.{length}
+use borrow.Author.Tests.{eq-eqb, ne_eqb, not-true, lt-ltb}
+use Rattle.std.specs.Prelude.{Some, Result, Err, if◌then◌else◌}
+use Rattle.std.specs.Option.{is_some}
+use Rattle.std.proofs.lemmas.Bool.{and_parts}
+use Rattle.lent.proofs.Choice.{if_ind, false_true, differ}
 use Rattle.mctp.specs.Cut.{packet}
 use Rattle.mctp.proofs.Laws.{one_packet}
 use Rattle.machine.specs.State.{World, Outcome, slot_at, store_at, with_slot}
-use Rattle.machine.specs.Finish.{is_slot, taken_request, taken, part, presented_in, presented, is_body, completed_by, completed, declared_by, was_declared}
+use Rattle.machine.specs.Finish.{TakeDone, is_slot, taken_request, taken, part, presented_in, presented, is_body, completed_by, completed, declared_by, was_declared}
 use Rattle.machine.specs.Wire.{wrong_stores, route_to}
 use Rattle.machine.specs.Poll.{after_packet, control_packet, command_packet}
 use Rattle.machine.specs.Valid.{PhaseFacts, Valid, Sound}
 use Rattle.machine.specs.Calls.{Call, take!, read, complete, poll, Event, number, given, part_read, handed_out, Stepped, take_event, step}
 use Rattle.machine.specs.History.{Trace, History, phase_at, paused_at, is_packet_of, moved, response_for, commanded, transmitted, trace_after, counts, next, run, start, unit_of, has_room}
 use Rattle.machine.specs.Demands.{TicketCount, is_process, Presents, completes, declares, TicketRefused, TicketRule, TicketOwn, AnswersOwn, route_of, reply_packet, AnswerBelongs, PausesHold, is_answered, is_idle_now, FlagsFit}
-use Rattle.machine.specs.Types.{Ticket, Untaken, Request, Outgoing, Phase, Idle, Receive, Process, Answered, Transmit, Slot, Endpoint, TakeDone, Presented, Unmatched}
+use Rattle.machine.specs.Types.{Ticket, Untaken, Request, Outgoing, Phase, Idle, Receive, Process, Answered, Transmit, Slot, Reply, Endpoint}
 use Rattle.machine.proofs.Slots.{facts_at}
 use Rattle.machine.proofs.Cases.{same_number, take_cases, unmatched_least, Match, ticket_cases}
 use Rattle.machine.proofs.Traces.{sent_cases}
@@ -143,17 +146,15 @@ pub not_older : (a b : ℕ) → a ≤ b → b < a + 2 ^ 32 → a % 2 ^ 32 ≡ b 
 not_older a b lo hi e = omega arith
 
 pub slot_yes : (i : ℕ) → i ≤ 1 → is_slot i ≡ true
-slot_yes zero h = refl
-slot_yes (suc zero) h = refl
-slot_yes (suc (suc n)) h = absurd (omega arith)
+slot_yes i h = lt-ltb i 2 (omega arith)
 
 -- a ticket that is not that of a command in Process
 not_present : (e : Endpoint) (i : ℕ) → i ≤ 1 → (t : Ticket) → (is_process (slot_at e i).phase ≡ true → t.0 ≡ (slot_at e i).ticket.0 → ⊥)
-    → presented e i t ≡ Unmatched (if is_process (slot_at e i).phase then 32 else 31)
+    → presented e i t ≡ Err (if is_process (slot_at e i).phase then 32 else 31)
 unfolding presented
 not_present e i is t n = rw (slot_yes i is) (into (slot_at e i).phase n)
   where
-    into : (p : Phase) → (is_process p ≡ true → t.0 ≡ (slot_at e i).ticket.0 → ⊥) → presented_in t (slot_at e i) p ≡ Unmatched (if is_process p then 32 else 31)
+    into : (p : Phase) → (is_process p ≡ true → t.0 ≡ (slot_at e i).ticket.0 → ⊥) → presented_in t (slot_at e i) p ≡ Err (if is_process p then 32 else 31)
     into (Idle held) n = refl
     into (Receive a) n = refl
     into (Process r) n = rw (ne_eqb t.0 (slot_at e i).ticket.0 (n refl)) refl
@@ -195,10 +196,10 @@ accepted w i t c (completes body) e = by (same_number e)
         unfold completed in
         (if_ind Says (wrong_stores w) (λ _ q. absurd (omega arith))
         (λ _.
-        ticket_cases (λ (x : Presented). Says (completed_by w i body x)) w.endpoint i t (λ n d q. absurd (omega (arith, unmatched_least d)))
+        ticket_cases (λ (x : Result Request ℕ). Says (completed_by w i body x)) w.endpoint i t (λ n d q. absurd (omega (arith, unmatched_least d)))
         (λ k. if_ind Says (not (is_body body)) (λ _ q. absurd (omega arith)) (λ _ _. k))))
 accepted w i t c (declares can) e =
-    ticket_cases (λ (x : Presented). (declared_by w.endpoint i can x).answer ≡ 0 → Match w.endpoint i t) w.endpoint i t
+    ticket_cases (λ (x : Result Request ℕ). (declared_by w.endpoint i can x).answer ≡ 0 → Match w.endpoint i t) w.endpoint i t
     (λ n d q. absurd (omega (arith, unmatched_least d))) (λ k _. k) (same_number e)
 
 in_process_now : {e : Endpoint} {i : ℕ} {t : Ticket} → Match e i t → is_process (slot_at e i).phase ≡ true
@@ -267,10 +268,10 @@ same_bytes : {s u : List ℕ} → handed_out u ≡ handed_out s → s ≡ u
 same_bytes e = cc
 
 -- the control reply in literal bytes
-pub reply_packet_lem : (e : Endpoint) → Valid e → control_packet e ≡ reply_packet e
-reply_packet_lem e v =
-    let n = v.reply_twelve in
-    one_packet e.unit (route_to e e.reply_to e.reply_tag) e.reply (omega (arith, n)) (omega (arith, n, v.numbers.unit_least))
+pub reply_packet_lem : (e : Endpoint) (r : Reply) → e.reply ≡ Some r → Valid e → control_packet e r ≡ reply_packet e
+reply_packet_lem e r is v =
+    let n : length r.message ≡ 12 = rw is at v.reply_twelve in
+    rw is (one_packet e.unit (route_to e r.to r.tag) r.message (omega (arith, n)) (omega (arith, n, v.numbers.unit_least)))
 
 -- a slot that sends a packet has a response
 pub moved_full : (h : History) → Good h → (i : ℕ) → i ≤ 1 → (q : Phase) → moved (phase_at h.world i) q ≡ true → (h.trace i).response ≡ [] → ⊥
@@ -289,7 +290,7 @@ pub record BelongsBy (h : History) (s : Stepped) (bytes : List ℕ) : Type 0 whe
   pub of_slot : (i : ℕ) → i ≤ 1 → moved (phase_at h.world i) (phase_at s.world i) ≡ true
       → bytes ≡ packet (unit_of h.world) (route_of h i) (h.trace i).response (h.trace i).packets
   pub of_none : ((i : ℕ) → i ≤ 1 → moved (phase_at h.world i) (phase_at s.world i) ≡ false)
-      → (h.world.endpoint.reply_waits ≡ true) × (bytes ≡ reply_packet h.world.endpoint)
+      → (is_some h.world.endpoint.reply ≡ true) × (bytes ≡ reply_packet h.world.endpoint)
 
 module _ (h : History) (g : Good h) (buffer : List ℕ) where
   -- the packet of the slot that is chosen
@@ -301,10 +302,10 @@ module _ (h : History) (g : Good h) (buffer : List ℕ) where
 
   belongs_by : {s : Stepped} (bytes : List ℕ) → PollCase h.world buffer s → s.event ≡ handed_out bytes → BelongsBy h s bytes
   belongs_by bytes (still n _) e = number_out e
-  belongs_by bytes (replies waits _) e =
+  belongs_by bytes (replies r is _) e =
       record {
         of_slot = λ i is m. false_true (sym (moved_same (phase_at h.world i)) ∙ m);
-        of_none = λ _. (waits, same_bytes e ∙ reply_packet_lem h.world.endpoint g.sound.state);
+        of_none = λ _. (ap is_some is, same_bytes e ∙ reply_packet_lem h.world.endpoint r is g.sound.state);
       }
   belongs_by bytes (sends k q c counted) e =
       record {
@@ -338,7 +339,7 @@ module _ (h : History) (g : Good h) (buffer : List ℕ) where
   -- a command packet goes by a poll that is counted
   counted_by : {s : Stepped} (i : ℕ) → PollCase h.world buffer s → is_packet_of (phase_at h.world i) (phase_at s.world i) s.event ≡ true → counts (poll buffer) h.world ≡ true
   counted_by i (still n _) e = false_true e
-  counted_by i (replies _ _) e = false_true (sym (moved_same (phase_at h.world i)) ∙ e)
+  counted_by i (replies _ _ _) e = false_true (sym (moved_same (phase_at h.world i)) ∙ e)
   counted_by i (sends k q c counted) e = counted
 
 pub answer_belongs : AnswerBelongs
@@ -355,7 +356,7 @@ pauses_hold eid unit store0 store1 a b xs i is buffer e =
     let h = run xs (start eid unit store0 store1) in
     let g = good_every eid unit store0 store1 a b xs in
     let c = counted_by h g buffer i (poll_case h.world buffer g.sound) e in
-    let k = and_both (not (paused_at h.world 0)) (not (paused_at h.world 1)) (and_both (has_room h.world buffer) (not (paused_at h.world 0) && not (paused_at h.world 1)) c).1 in
+    let k = and_parts (not (paused_at h.world 0)) (not (paused_at h.world 1)) (and_parts (has_room h.world buffer) (not (paused_at h.world 0) && not (paused_at h.world 1)) c).1 in
     (not-true (paused_at h.world 0) k.0, not-true (paused_at h.world 1) k.1)
 
 answered_flag : (unit : ℕ) (b : Bool) (p : Phase) → PhaseFacts unit b p → is_answered p ≡ true → b ≡ true

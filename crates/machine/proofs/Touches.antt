@@ -5,15 +5,17 @@ use mathlib.Core.Path.{◌≡◌, refl}
 use mathlib.Core.Bool.{Bool, true, false, not, ◌||◌}
 use mathlib.Core.List.{List}
 use borrow.Author.Tests.{not-false}
-use Rattle.lent.proofs.Choice.{if_ind, or_left}
-use Rattle.machine.specs.State.{World, Outcome, slot_at, with_slot, with_phase, idled, settled}
+use Rattle.std.proofs.lemmas.Bool.{or_parts}
+use Rattle.lent.proofs.Choice.{if_ind}
+use Rattle.machine.specs.State.{World, Outcome, Done, slot_at, with_slot, with_phase, idled, settled}
 use Rattle.machine.specs.Wire.{wrong_stores}
 use Rattle.machine.specs.Process.{response_to, responded}
-use Rattle.machine.specs.Finish.{is_slot, taken_request, taken, is_body, completed_by, completed, declared_by, was_declared, is_receive, timed_out}
+use Rattle.machine.specs.Finish.{TakeDone, is_slot, taken_request, taken, is_body, completed_by, completed, declared_by, was_declared, is_receive, timed_out}
 use Rattle.machine.specs.Valid.{Valid}
-use Rattle.machine.specs.Types.{Ticket, Request, Response, Process, Slot, Endpoint, Done, TakeDone, Presented}
+use Rattle.machine.specs.Types.{Ticket, Request, Response, Process, Slot, Endpoint}
 use Rattle.machine.proofs.Cases.{slot_most, take_cases, ticket_cases}
 use Rattle.machine.proofs.Places.{Which, this, that, which, slot_this, slot_that}
+use Rattle.std.specs.Prelude.{Result}
 
 -- a slot before and after
 pub data Touched (s t : Slot) : Type 0 where
@@ -48,7 +50,7 @@ unfolding completed responded
 complete_touches w v i t body =
     if_ind Kept (wrong_stores w) (λ _. untouched w.endpoint)
     (λ _.
-    ticket_cases (λ (x : Presented). Kept (completed_by w i body x)) w.endpoint i t (λ _ _. untouched w.endpoint)
+    ticket_cases (λ (x : Result Request ℕ). Kept (completed_by w i body x)) w.endpoint i t (λ _ _. untouched w.endpoint)
     (λ k.
     if_ind Kept (not (is_body body)) (λ _. untouched w.endpoint)
     (λ _. one_touched w.endpoint v i k.slot_is _ (fixed k.request (response_to k.request body) k.in_process refl))))
@@ -59,7 +61,7 @@ complete_touches w v i t body =
 pub declare_touches : (e : Endpoint) → Valid e → (i : ℕ) (t : Ticket) (can : Bool) → Touches e (was_declared e i t can).endpoint
 unfolding was_declared
 declare_touches e v i t can =
-    ticket_cases (λ (x : Presented). Touches e (declared_by e i can x).endpoint) e i t (λ _ _. untouched e)
+    ticket_cases (λ (x : Result Request ℕ). Touches e (declared_by e i can x).endpoint) e i t (λ _ _. untouched e)
     (λ k. one_touched e v i k.slot_is _ (handed k.request can k.in_process refl))
 
 pub timeout_touches : (e : Endpoint) → Valid e → (i : ℕ) → Touches e (timed_out e i).endpoint
@@ -70,7 +72,7 @@ timeout_touches e v i =
     if_ind Kept (not (is_receive (slot_at e i).phase) || (slot_at e i).paused) (λ _. untouched e)
     (λ k.
     one_touched e v i (slot_most i h) (idled (slot_at e i))
-    (ended (not-false (is_receive (slot_at e i).phase) (or_left (not (is_receive (slot_at e i).phase)) (slot_at e i).paused k)) refl)))
+    (ended (not-false (is_receive (slot_at e i).phase) (or_parts (not (is_receive (slot_at e i).phase)) (slot_at e i).paused k).0) refl)))
   where
     Kept : Done → Type 0
     Kept d = Touches e d.endpoint

@@ -6,7 +6,8 @@ use mathlib.Core.Bool.{Bool, true, not, ◌&&◌}
 use mathlib.Core.List.{List}
 use lib.Dec.{eqb}
 use borrow.Author.Tests.{eqb-true}
-use Rattle.lent.proofs.Choice.{if_ind, and_both}
+use Rattle.std.proofs.lemmas.Bool.{and_parts}
+use Rattle.lent.proofs.Choice.{if_ind}
 use Rattle.machine.specs.State.{World}
 use Rattle.machine.specs.Calls.{Call, receive, take!, read, complete, declare, poll, timeout, reset, Event, number, given, part_read, handed_out}
 use Rattle.machine.specs.History.{Trace, is_transmit, is_for, is_packet_of, gaining, entering, completing, taking, declaring, commanded, sending, transmitted}
@@ -24,10 +25,10 @@ pub data Adds (i : ℕ) (c : Call) (w : World) (v : Event) (l : Trace) : Trace �
 pub adds : (i : ℕ) (c : Call) (w : World) (v : Event) (l : Trace) → Adds i c w v l (commanded i c w v l)
 adds i (receive p) w (number n) l =
     if_ind (Adds i (receive p) w (number n) l) (eqb n 0 && is_for i p w)
-    (λ k. let q = and_both (eqb n 0) (is_for i p w) k in a_payload p refl (ap number (eqb-true n 0 q.0)) q.1)
+    (λ k. let q = and_parts (eqb n 0) (is_for i p w) k in a_payload p refl (ap number (eqb-true n 0 q.0)) q.1)
     (λ _.
     if_ind (Adds i (receive p) w (number n) l) (eqb n 1 && is_for i p w)
-    (λ k. let q = and_both (eqb n 1) (is_for i p w) k in an_entry p refl (ap number (eqb-true n 1 q.0)) q.1) (λ _. nothing))
+    (λ k. let q = and_parts (eqb n 1) (is_for i p w) k in an_entry p refl (ap number (eqb-true n 1 q.0)) q.1) (λ _. nothing))
 adds i (receive p) w (given t) l = nothing
 adds i (receive p) w (part_read s) l = nothing
 adds i (receive p) w (handed_out s) l = nothing
@@ -38,14 +39,14 @@ adds i (take! j) w (handed_out s) l = nothing
 adds i (read j) w v l = nothing
 adds i (complete j t body) w (number n) l =
     if_ind (Adds i (complete j t body) w (number n) l) (eqb n 0 && eqb j i)
-    (λ k. let q = and_both (eqb n 0) (eqb j i) k in a_completion t body (ap (λ (x : ℕ). complete x t body) (eqb-true j i q.1)) (ap number (eqb-true n 0 q.0)))
+    (λ k. let q = and_parts (eqb n 0) (eqb j i) k in a_completion t body (ap (λ (x : ℕ). complete x t body) (eqb-true j i q.1)) (ap number (eqb-true n 0 q.0)))
     (λ _. nothing)
 adds i (complete j t body) w (given x) l = nothing
 adds i (complete j t body) w (part_read s) l = nothing
 adds i (complete j t body) w (handed_out s) l = nothing
 adds i (declare j t can) w (number n) l =
     if_ind (Adds i (declare j t can) w (number n) l) (eqb n 0 && eqb j i)
-    (λ k. let q = and_both (eqb n 0) (eqb j i) k in a_declaration t can (ap (λ (x : ℕ). declare x t can) (eqb-true j i q.1)) (ap number (eqb-true n 0 q.0)))
+    (λ k. let q = and_parts (eqb n 0) (eqb j i) k in a_declaration t can (ap (λ (x : ℕ). declare x t can) (eqb-true j i q.1)) (ap number (eqb-true n 0 q.0)))
     (λ _. nothing)
 adds i (declare j t can) w (given x) l = nothing
 adds i (declare j t can) w (part_read s) l = nothing

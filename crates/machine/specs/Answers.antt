@@ -1,7 +1,9 @@
 -- Every answer number of document 01 that is not about bytes alone; `mctp` names 10 to 14 (Header), 16 and 21 to 23 (Gather), and `opening` 15 and 17
 -- to 19.
 -- Assumes nothing.
-use Rattle.std.specs.Prelude.{ℕ}
+use Rattle.std.specs.Prelude.{ℕ, Result, Ok, Err}
+use Rattle.refusals.specs.Refusals.{number}
+use Rattle.machine.specs.Types.{Refusal, Received, MoreToCome, CommandComplete, ControlDone}
 
 -- ---- receiving
 
@@ -17,6 +19,17 @@ control_done = 2
 
 abbrev pub slot_not_idle : ℕ
 slot_not_idle = 20
+
+-- what a packet that is not refused did, in document 01's number
+abbrev pub received_number : Received → ℕ
+received_number MoreToCome = 0
+received_number CommandComplete = 1
+received_number ControlDone = 2
+
+-- what receiving answers, in document 01's number
+abbrev pub receive_says : Result Received Refusal → ℕ
+receive_says (Ok received) = received_number received
+receive_says (Err refusal) = number refusal
 
 -- ---- taking, completing, declaring, timeout, reset, setup
 

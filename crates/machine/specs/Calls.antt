@@ -1,12 +1,12 @@
 -- The calls on one endpoint, and what one of them does to the endpoint and both stores. Setup is none of them: it starts a list of calls.
 -- Any slot number, ticket, bytes and buffer may be given, so refused calls are calls too.
 -- Assumes nothing.
-use Rattle.std.specs.Prelude.{ℕ, Bool, true, false, List, [], ◌∷◌, take}
-use Rattle.machine.specs.State.{World, Outcome, ticket, world, with_endpoint}
+use Rattle.std.specs.Prelude.{ℕ, Bool, true, false, List, [], ◌∷◌, Option, Result, take}
+use Rattle.machine.specs.State.{World, Outcome, Done, ticket, world, with_endpoint}
 use Rattle.machine.specs.Receive.{received}
-use Rattle.machine.specs.Finish.{taken, take_says, part, completed, was_declared, timed_out, was_reset, was_set_up}
+use Rattle.machine.specs.Finish.{TakeDone, taken, take_says, part, completed, was_declared, timed_out, was_reset, was_set_up}
 use Rattle.machine.specs.Poll.{Polled, poll_says, polled}
-use Rattle.machine.specs.Types.{Ticket, Done, TakeAnswer, TakeDone, PollAnswer}
+use Rattle.machine.specs.Types.{Ticket}
 
 pub data Call : Type 0 where
   -- a packet
@@ -66,13 +66,13 @@ abbrev pub number_or : (ℕ → Event) → ℕ → List ℕ → Event
 number_or f n [] = number n
 number_or f n (value ∷ values) = f value
 
-abbrev pub take_event : TakeAnswer → Event
+abbrev pub take_event : Result Ticket ℕ → Event
 take_event a = number_or (λ t. given (ticket t)) (take_says a).0 (take_says a).1
 
 abbrev pub by_take : World → TakeDone → Stepped
 by_take w d = stepped (take_event d.answer) (with_endpoint w d.endpoint)
 
-abbrev pub poll_event : List ℕ → PollAnswer → Event
+abbrev pub poll_event : List ℕ → Result (Option ℕ) ℕ → Event
 poll_event buffer a = number_or (λ n. handed_out (take n buffer)) (poll_says a).0 (poll_says a).1
 
 abbrev pub by_poll : World → Polled → Stepped

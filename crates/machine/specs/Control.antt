@@ -1,16 +1,15 @@
 -- "Control primitives". Act on the whole at once.
 -- Assumes nothing.
-use Rattle.std.specs.Prelude.{ℕ, Bool, true, false, List, eqb, if◌then◌else◌}
+use Rattle.std.specs.Prelude.{Result, Ok, Err, ℕ, Bool, true, false, List, Option, None, Some, eqb, if◌then◌else◌}
 use Rattle.std.specs.Int.Bits.{bit_or}
 use Rattle.mctp.specs.declared.Header.{Header}
 use Rattle.nvme_mi.specs.Message.{control, control_fault}
 use Rattle.nvme_mi.specs.Response.{response, fault_body, success_body}
 use Rattle.nvme_mi.specs.declared.MessageHeader.{MessageHeader}
 use Rattle.nvme_mi.specs.declared.Fault.{Fault}
-use Rattle.nvme_mi.specs.declared.Fault.TheVariants.{NoFault, Parameter, Failure}
 use Rattle.machine.specs.State.{outgoing, slot_at, with_slot, on_both, with_phase, with_paused, with_busy, with_flags, with_reply, slot, idled, held_in, is_idle}
 use Rattle.machine.specs.Wire.{opcode_of, tag_of, no_parameter, clears_flags}
-use Rattle.machine.specs.Types.{Taking, Untaken, Taken, Held, NoResponse, Last, Phase, Idle, Receive, Process, Answered, Transmit, Slot, Endpoint, Acted}
+use Rattle.machine.specs.Types.{Taking, Untaken, Taken, Response, Phase, Idle, Receive, Process, Answered, Transmit, Slot, Endpoint}
 
 -- the value where the test holds, else 0
 abbrev pub bit : Bool → ℕ → ℕ
@@ -77,16 +76,20 @@ state_word e i =
 unfoldable pub clear_flags : Endpoint → ℕ → Endpoint
 clear_flags e i = with_flags (with_slot e i (with_busy (slot_at e i) false)) 0
 
--- ---- what a primitive leaves and reports
+-- ---- what a primitive leaves, and what it reports in CPSR
+
+pub record Acted : Type 0 where
+  pub endpoint : Endpoint
+  pub cpsr : ℕ
 
 abbrev pub acted : Endpoint → ℕ → Acted
 acted e cpsr = record { endpoint = e; cpsr = cpsr }
 
 -- Replay (4), of document 02: "If the slot is Idle and still holds its last response, it goes to Transmit and sends it again under the same tag
 -- to the same requester, CPSR 1; otherwise CPSR 0 and nothing happens."
-abbrev pub replayed : Endpoint → ℕ → Held → Acted
-replayed e i NoResponse = acted e 0
-replayed e i (Last r) = acted (with_slot e i (with_phase (slot_at e i) (Transmit (outgoing r 0)))) 1
+abbrev pub replayed : Endpoint → ℕ → Option Response → Acted
+replayed e i None = acted e 0
+replayed e i (Some r) = acted (with_slot e i (with_phase (slot_at e i) (Transmit (outgoing r 0)))) 1
 
 unfoldable pub replay : Endpoint → ℕ → Acted
 replay e i = replayed e i (held_in (slot_at e i).phase)
@@ -109,10 +112,9 @@ replied e h csi body = with_reply e (response control csi body) h.source h.tag
 abbrev pub replied_acted : Header → ℕ → ℕ → Acted → Endpoint
 replied_acted h csi tag a = replied a.endpoint h csi (success_body tag a.cpsr)
 
-abbrev pub controlled_by : Endpoint → Header → ℕ → List ℕ → Fault → Endpoint
-controlled_by e h csi m NoFault = replied_acted h csi (tag_of m) (primitive e (opcode_of m) csi (clears_flags m))
-controlled_by e h csi m (Parameter byte bit) = replied e h csi (fault_body (Parameter byte bit))
-controlled_by e h csi m (Failure status) = replied e h csi (fault_body (Failure status))
+abbrev pub controlled_by : Endpoint → Header → ℕ → List ℕ → Result (Unit {0}) Fault → Endpoint
+controlled_by e h csi m (Ok none) = replied_acted h csi (tag_of m) (primitive e (opcode_of m) csi (clears_flags m))
+controlled_by e h csi m (Err fault) = replied e h csi (fault_body (Err fault))
 
 -- a control primitive that came whole, with a right check
 unfoldable pub controlled : Endpoint → Header → MessageHeader → List ℕ → Endpoint

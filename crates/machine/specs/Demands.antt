@@ -2,7 +2,8 @@
 -- (proofs/Arrives), `ticket_count`, `ticket_rule`, `ticket_own`, `answers_own`, `answer_belongs`, `pauses_hold`, `flags_fit` (proofs/Tickets),
 -- `abort_idles` (proofs/Replies), `always_sound` (proofs/Histories), `identity_kept` (proofs/Identity).
 -- Assumes nothing.
-use Rattle.std.specs.Prelude.{ℕ, ◌+◌, ◌*◌, ◌%◌, ◌^◌, ◌≤◌, ◌<◌, ◌≡◌, Bool, true, false, List, [], ◌∷◌, eqb, length, if◌then◌else◌}
+use Rattle.std.specs.Prelude.{ℕ, ◌+◌, ◌*◌, ◌%◌, ◌^◌, ◌≤◌, ◌<◌, ◌≡◌, Bool, true, false, List, [], ◌∷◌, Option, None, Some, eqb, length, if◌then◌else◌}
+use Rattle.std.specs.Option.{is_some}
 use Rattle.mctp.specs.Setup.{setup_number}
 use Rattle.mctp.specs.Cut.{packet}
 use Rattle.mctp.specs.declared.Route.{Route}
@@ -10,7 +11,7 @@ use Rattle.machine.specs.State.{World, slot_at}
 use Rattle.machine.specs.Valid.{phased, Sound}
 use Rattle.machine.specs.Calls.{Call, receive, take!, read, complete, declare, poll, number, given, part_read, handed_out, step}
 use Rattle.machine.specs.History.{History, phase_at, paused_at, is_transmit, is_for, request_with, response_for, fixed_at_entry, is_packet_of, unit_of, next, run, start, cuts, over_unit, packets_left, last_packet_out}
-use Rattle.machine.specs.Types.{Ticket, NoResponse, Phase, Idle, Endpoint}
+use Rattle.machine.specs.Types.{Ticket, Phase, Idle, Reply, Endpoint}
 
 -- ---- what happens first to the response that slot i is sending
 
@@ -148,9 +149,14 @@ AnswersOwn =
 abbrev pub route_of : History → ℕ → Route
 route_of h i = record { destination = (h.trace i).requester; source = h.world.endpoint.eid; to = false; tag = (h.trace i).tag }
 
--- the packet of the control reply that waits: version 1, to its requester, from this endpoint, SOM and EOM, sequence 0, TO 0, its tag
+-- the packet of the control reply that waits: version 1, to its requester, from this endpoint, SOM and EOM, sequence 0, TO 0, its tag. Where none
+-- waits, no bytes.
+abbrev pub reply_packet_of : ℕ → Option Reply → List ℕ
+reply_packet_of eid None = []
+reply_packet_of eid (Some r) = 1 ∷ r.to ∷ eid ∷ (0xC0 + r.tag % 8) ∷ r.message
+
 abbrev pub reply_packet : Endpoint → List ℕ
-reply_packet e = 1 ∷ e.reply_to ∷ e.eid ∷ (0xC0 + e.reply_tag % 8) ∷ e.reply
+reply_packet e = reply_packet_of e.eid e.reply
 
 -- a packet that a poll hands out of slot i is the next packet of the response fixed for the slot's last entry; and one that is of no slot is
 -- the control reply that waited
@@ -158,7 +164,7 @@ pub record Belongs (h : History) (buffer : List ℕ) (bytes : List ℕ) : Type 0
   pub of_slot : (i : ℕ) → i ≤ 1 → is_packet_of (phase_at h.world i) (phase_at (step (poll buffer) h.world).world i) (handed_out bytes) ≡ true
       → bytes ≡ packet (unit_of h.world) (route_of h i) (h.trace i).response (h.trace i).packets
   pub of_none : ((i : ℕ) → i ≤ 1 → is_packet_of (phase_at h.world i) (phase_at (step (poll buffer) h.world).world i) (handed_out bytes) ≡ false)
-      → (h.world.endpoint.reply_waits ≡ true) × (bytes ≡ reply_packet h.world.endpoint)
+      → (is_some h.world.endpoint.reply ≡ true) × (bytes ≡ reply_packet h.world.endpoint)
 
 -- AN ANSWER BELONGS TO ITS QUESTION
 abbrev pub AnswerBelongs : Type 0
@@ -187,7 +193,7 @@ FlagsFit =
 
 -- what demand 3 excuses, an Abort that acts on the slot or a reset, does send the slot to Idle, and then it holds no response
 abbrev pub AbortIdles : Type 0
-AbortIdles = Every (λ h. (c : Call) (i : ℕ) → i ≤ 1 → cuts i c h.world ≡ true → phase_at (step c h.world).world i ≡ Idle NoResponse)
+AbortIdles = Every (λ h. (c : Call) (i : ℕ) → i ≤ 1 → cuts i c h.world ≡ true → phase_at (step c h.world).world i ≡ Idle None)
 
 -- the invariant holds after every list of calls, and both stores keep their length
 abbrev pub AlwaysSound : Type 0

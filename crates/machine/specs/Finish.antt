@@ -1,21 +1,25 @@
 -- "Taking and finishing" with document 02's declaring, timeout, reset and setup.
 -- Assumes nothing.
-use Rattle.std.specs.Prelude.{ℕ, ◌^◌, Bool, true, false, not, ◌||◌, List, [], ◌∷◌, eqb, ltb, length, take, replicate, if◌then◌else◌}
+use Rattle.std.specs.Prelude.{ℕ, ◌^◌, Bool, true, false, not, ◌||◌, List, [], ◌∷◌, None, Result, Ok, Err, eqb, ltb, length, take, if◌then◌else◌}
 use Rattle.mctp.specs.Setup.{first_eid, least_unit, setup_refusal}
 use Rattle.machine.specs.Answers.{done, no_such_slot, no_command, other_ticket, taken_already, not_taken, wrong_body_size, not_gathering, wrong_stores_number}
-use Rattle.machine.specs.State.{World, Outcome, outcome, ended, slot_at, store_at, with_slot, with_phase, idled, fresh, ticket, endpoint}
+use Rattle.machine.specs.State.{World, Outcome, Done, outcome, ended, slot_at, store_at, with_slot, with_phase, idled, fresh, ticket, endpoint}
 use Rattle.machine.specs.Wire.{wrong_stores}
 use Rattle.machine.specs.Process.{responded}
 use Rattle.machine.specs.Receive.{raised}
-use Rattle.machine.specs.Types.{Ticket, Taking, Untaken, Taken, Request, Phase, Idle, Receive, Process, Answered, Transmit, Slot, Endpoint, Done, TakeAnswer, TakeDone, Presented, Unmatched, Matched}
-use Rattle.machine.specs.declared.TakeAnswer.TheVariants.{Refused, Given}
+use Rattle.machine.specs.Types.{Ticket, Taking, Untaken, Taken, Request, Phase, Idle, Receive, Process, Answered, Transmit, Slot, Endpoint}
 
 abbrev pub is_slot : ℕ → Bool
 is_slot i = ltb i 2
 
 -- ---- taking: 30 slot above 1; 31 not in Process, or its response is there; 33 taken already. Otherwise the ticket.
 
-abbrev pub take_ended : TakeAnswer → Endpoint → TakeDone
+-- what taking answers, refused by number or the ticket, and the state that it leaves
+pub record TakeDone : Type 0 where
+  pub answer : Result Ticket ℕ
+  pub endpoint : Endpoint
+
+abbrev pub take_ended : Result Ticket ℕ → Endpoint → TakeDone
 take_ended a e = record { answer = a; endpoint = e }
 
 -- the taken command; the mark says whether it can still be stopped
@@ -28,25 +32,25 @@ with_mark e i r can = with_slot e i (with_phase (slot_at e i) (Process (taken_re
 
 -- taking starts at "can't"
 abbrev pub taken_row : Endpoint → ℕ → Request → Taking → TakeDone
-taken_row e i r Untaken = take_ended (Given (slot_at e i).ticket) (with_mark e i r false)
-taken_row e i r (Taken can) = take_ended (Refused taken_already) e
+taken_row e i r Untaken = take_ended (Ok (slot_at e i).ticket) (with_mark e i r false)
+taken_row e i r (Taken can) = take_ended (Err taken_already) e
 
 abbrev pub taken_from : Endpoint → ℕ → Phase → TakeDone
-taken_from e i (Idle k) = take_ended (Refused no_command) e
-taken_from e i (Receive a) = take_ended (Refused no_command) e
+taken_from e i (Idle k) = take_ended (Err no_command) e
+taken_from e i (Receive a) = take_ended (Err no_command) e
 taken_from e i (Process r) = taken_row e i r r.taking
-taken_from e i (Answered r) = take_ended (Refused no_command) e
-taken_from e i (Transmit r) = take_ended (Refused no_command) e
+taken_from e i (Answered r) = take_ended (Err no_command) e
+taken_from e i (Transmit r) = take_ended (Err no_command) e
 
 unfoldable pub taken : Endpoint → ℕ → TakeDone
 taken e i =
-    if not (is_slot i) then take_ended (Refused no_such_slot) e
+    if not (is_slot i) then take_ended (Err no_such_slot) e
     else taken_from e i (slot_at e i).phase
 
 -- document 01's number for what taking answers, and the values beside it: behind 0 the ticket
-abbrev pub take_says : TakeAnswer → ℕ × List ℕ
-take_says (Refused n) = (n, [])
-take_says (Given t) = (done, t.0 ∷ [])
+abbrev pub take_says : Result Ticket ℕ → ℕ × List ℕ
+take_says (Err n) = (n, [])
+take_says (Ok t) = (done, t.0 ∷ [])
 
 -- ---- reading: the request as a part of the slot's store, check included; empty if the slot is above 1, a store has another length, or
 -- no taken command there awaits completion
@@ -75,22 +79,22 @@ part w i =
 abbrev pub is_present : Ticket → Slot → Bool
 is_present t s = eqb t.0 s.ticket.0
 
-abbrev pub presented_row : Request → Taking → Presented
-presented_row r Untaken = Unmatched not_taken
-presented_row r (Taken can) = Matched r
+abbrev pub presented_row : Request → Taking → Result Request ℕ
+presented_row r Untaken = Err not_taken
+presented_row r (Taken can) = Ok r
 
-abbrev pub presented_in : Ticket → Slot → Phase → Presented
-presented_in t s (Idle k) = Unmatched no_command
-presented_in t s (Receive a) = Unmatched no_command
+abbrev pub presented_in : Ticket → Slot → Phase → Result Request ℕ
+presented_in t s (Idle k) = Err no_command
+presented_in t s (Receive a) = Err no_command
 presented_in t s (Process r) =
-    if not (is_present t s) then Unmatched other_ticket
+    if not (is_present t s) then Err other_ticket
     else presented_row r r.taking
-presented_in t s (Answered r) = Unmatched no_command
-presented_in t s (Transmit r) = Unmatched no_command
+presented_in t s (Answered r) = Err no_command
+presented_in t s (Transmit r) = Err no_command
 
-unfoldable pub presented : Endpoint → ℕ → Ticket → Presented
+unfoldable pub presented : Endpoint → ℕ → Ticket → Result Request ℕ
 presented e i t =
-    if not (is_slot i) then Unmatched no_such_slot
+    if not (is_slot i) then Err no_such_slot
     else presented_in t (slot_at e i) (slot_at e i).phase
 
 -- ---- completing: the tests above; 35 body not 4 to 4,216 bytes; else 0
@@ -98,9 +102,9 @@ presented e i t =
 abbrev pub is_body : List ℕ → Bool
 is_body body = not (ltb (length body) 4 || ltb 4216 (length body))
 
-abbrev pub completed_by : World → ℕ → List ℕ → Presented → Outcome
-completed_by w i body (Unmatched n) = outcome n w
-completed_by w i body (Matched r) =
+abbrev pub completed_by : World → ℕ → List ℕ → Result Request ℕ → Outcome
+completed_by w i body (Err n) = outcome n w
+completed_by w i body (Ok r) =
     if not (is_body body) then outcome wrong_body_size w
     else outcome done (responded w i r body)
 
@@ -112,9 +116,9 @@ completed w i t body =
 
 -- ---- declaring, of document 02: "with slot and ticket, that the taken command can still be stopped, or no longer can"; the tests above, else 0
 
-abbrev pub declared_by : Endpoint → ℕ → Bool → Presented → Done
-declared_by e i can (Unmatched n) = ended n e
-declared_by e i can (Matched r) = ended done (with_mark e i r can)
+abbrev pub declared_by : Endpoint → ℕ → Bool → Result Request ℕ → Done
+declared_by e i can (Err n) = ended n e
+declared_by e i can (Ok r) = ended done (with_mark e i r can)
 
 unfoldable pub was_declared : Endpoint → ℕ → Ticket → Bool → Done
 unfolding presented
@@ -139,7 +143,7 @@ timed_out e i =
 
 -- all zero but the EID, the unit, the flags and the ticket counts; slot 0's turn, last packet counted as not control
 abbrev pub started : ℕ → ℕ → ℕ → Ticket → Ticket → Endpoint
-started eid unit flags t0 t1 = endpoint eid unit (fresh t0 ∷ fresh t1 ∷ []) flags (replicate 12 0) false 0 0 0 false
+started eid unit flags t0 t1 = endpoint eid unit (fresh t0 ∷ fresh t1 ∷ []) flags None 0 false
 
 -- both slots Idle, bits 3 to 12 cleared, control reply gone, bit 14 set, slot 0's turn, last packet counted as not control, ticket counts
 -- kept; answer 0

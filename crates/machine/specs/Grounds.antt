@@ -1,7 +1,7 @@
 -- "Receiving, in this order", flat: which number receiving answers, row by row in the document's order and words, from the packet's bytes, the
 -- EID, the unit and what is seen of both slots. The proof: `grounds` (proofs/Grounds).
 -- Assumes nothing.
-use Rattle.std.specs.Prelude.{ℕ, ◌+◌, ◌/◌, ◌%◌, ◌≡◌, Bool, not, ◌&&◌, ◌||◌, List, ◌++◌, eqb, ltb, length, take, if◌then◌else◌}
+use Rattle.std.specs.Prelude.{ℕ, ◌+◌, ◌/◌, ◌%◌, ◌≡◌, Bool, not, ◌&&◌, ◌||◌, List, ◌++◌, None, eqb, ltb, length, take, if◌then◌else◌}
 use Rattle.lent.specs.Bytes.{byte_at, is_set}
 use Rattle.nvme_mi.specs.Check.{check_right}
 use Rattle.machine.specs.State.{World, store_at}
@@ -10,7 +10,7 @@ use Rattle.machine.specs.Valid.{phased, Valid}
 use Rattle.machine.specs.History.{has_som, source_of, message_tag_of, bytes_from4, phase_at, receives_from, unit_of}
 use Rattle.machine.specs.Numbers.{right_sizes}
 use Rattle.machine.specs.Demands.{is_idle_now}
-use Rattle.machine.specs.Types.{Assembly, NoResponse, Phase, Idle}
+use Rattle.machine.specs.Types.{Assembly, Phase, Idle}
 
 -- ---- a packet's bits
 
@@ -32,7 +32,7 @@ taken_in p message =
 
 -- the slot's phase, once an assembly with this source and tag has ended
 abbrev pub phase_found : World → List ℕ → ℕ → Phase
-phase_found w p i = if receives_from (source_of p) (message_tag_of p) (phase_at w i) then Idle NoResponse else phase_at w i
+phase_found w p i = if receives_from (source_of p) (message_tag_of p) (phase_at w i) then Idle None else phase_at w i
 
 -- NMIMT 0
 abbrev pub control_number : List ℕ → List ℕ → ℕ

@@ -3,6 +3,7 @@
 -- `take_numbers_lem`, `complete_numbers`, `declare_numbers`, `timeout_numbers`, `poll_numbers`, `setup_numbers` (proofs/Numbers).
 -- Assumes nothing.
 use Rattle.std.specs.Prelude.{ℕ, ◌+◌, ◌≡◌, Bool, true, false, not, ◌&&◌, ◌||◌, List, [], ◌∷◌, eqb, ltb, length, if◌then◌else◌}
+use Rattle.std.specs.Option.{is_some}
 use Rattle.mctp.specs.Setup.{setup_number}
 use Rattle.machine.specs.State.{World, slot_at}
 use Rattle.machine.specs.Finish.{taken, take_says, completed, was_declared, timed_out, was_set_up}
@@ -88,7 +89,7 @@ abbrev pub poll_number : World → List ℕ → ℕ
 poll_number w buffer =
     if not (right_sizes w) then 40
     else if ltb (length buffer) (unit_of w + 4) then 36
-    else if w.endpoint.reply_waits || is_command_ready w then 1
+    else if is_some w.endpoint.reply || is_command_ready w then 1
     else 0
 
 -- the length of the packet that a poll handed out

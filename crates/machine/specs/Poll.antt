@@ -1,79 +1,78 @@
 -- "Polling".
 -- Assumes nothing.
-use Rattle.std.specs.Prelude.{ℕ, ◌+◌, Bool, not, ◌&&◌, ◌||◌, List, [], ◌∷◌, ◌++◌, eqb, ltb, length, take, drop, if◌then◌else◌}
+use Rattle.std.specs.Prelude.{ℕ, ◌+◌, Bool, not, ◌||◌, List, [], ◌∷◌, ◌++◌, Option, None, Some, Result, Ok, Err, eqb, ltb, length, take, drop, if◌then◌else◌}
 use Rattle.mctp.specs.Cut.{packets, packet}
 use Rattle.machine.specs.Answers.{nothing_to_send, packet_sent_number, short_buffer, wrong_stores_number}
 use Rattle.machine.specs.State.{World, outgoing, slot_at, store_at, with_slot, with_phase, holding, reply_sent, packet_sent}
 use Rattle.machine.specs.Wire.{packet_room, route_to, wrong_stores}
-use Rattle.machine.specs.Types.{Outgoing, Phase, Idle, Receive, Process, Answered, Transmit, Slot, Endpoint, PollAnswer, Ready, Nothing, From}
-use Rattle.machine.specs.declared.PollAnswer.TheVariants.{Refused, Nothing as Silent, Packet}
+use Rattle.machine.specs.Types.{Outgoing, Phase, Idle, Receive, Process, Answered, Transmit, Slot, Reply, Endpoint}
 
 -- what a poll answers, the state that it leaves, and the lent buffer; it writes no store
 pub record Polled : Type 0 where
-  pub answer : PollAnswer
+  pub answer : Result (Option ℕ) ℕ
   pub endpoint : Endpoint
   pub buffer : List ℕ
 
-abbrev pub polled_to : PollAnswer → Endpoint → List ℕ → Polled
+abbrev pub polled_to : Result (Option ℕ) ℕ → Endpoint → List ℕ → Polled
 polled_to a e buffer = record { answer = a; endpoint = e; buffer = buffer }
 
 -- document 01's number for what polling answers, and the values beside it: behind 1 the packet's length
-abbrev pub poll_says : PollAnswer → ℕ × List ℕ
-poll_says (Refused n) = (n, [])
-poll_says Silent = (nothing_to_send, [])
-poll_says (Packet n) = (packet_sent_number, n ∷ [])
+abbrev pub poll_says : Result (Option ℕ) ℕ → ℕ × List ℕ
+poll_says (Err n) = (n, [])
+poll_says (Ok None) = (nothing_to_send, [])
+poll_says (Ok (Some n)) = (packet_sent_number, n ∷ [])
 
 -- ---- "A command packet is ready if a slot is in Transmit and neither pause flag is set."
 
 -- slot i's response where it is in Transmit, else what the other choice gives
-abbrev pub sending_or : ℕ → Phase → Ready → Ready
+abbrev pub sending_or : ℕ → Phase → Option (ℕ × Outgoing) → Option (ℕ × Outgoing)
 sending_or i (Idle k) other = other
 sending_or i (Receive a) other = other
 sending_or i (Process r) other = other
 sending_or i (Answered r) other = other
-sending_or i (Transmit r) other = From i r
+sending_or i (Transmit r) other = Some (i, r)
 
 -- a packet of it went
 abbrev pub has_begun : Outgoing → Bool
 has_begun r = ltb 0 r.sent
 
-abbrev pub begun_or : ℕ → Phase → Ready → Ready
+abbrev pub begun_or : ℕ → Phase → Option (ℕ × Outgoing) → Option (ℕ × Outgoing)
 begun_or i (Idle k) other = other
 begun_or i (Receive a) other = other
 begun_or i (Process r) other = other
 begun_or i (Answered r) other = other
-begun_or i (Transmit r) other = if has_begun r then From i r else other
+begun_or i (Transmit r) other = if has_begun r then Some (i, r) else other
 
 abbrev pub other_slot : ℕ → ℕ
 other_slot i = if eqb i 0 then 1 else 0
 
 -- "A begun response goes on to its end; with none begun, the slot other than the one that last began goes first if in Transmit."
-unfoldable pub chosen : Endpoint → Ready
+unfoldable pub chosen : Endpoint → Option (ℕ × Outgoing)
 chosen e =
     begun_or 0 (slot_at e 0).phase
     (begun_or 1 (slot_at e 1).phase
     (sending_or e.turn (slot_at e e.turn).phase
     (sending_or (other_slot e.turn) (slot_at e (other_slot e.turn)).phase
-    Nothing)))
+    None)))
 
 abbrev pub any_paused : Endpoint → Bool
 any_paused e = (slot_at e 0).paused || (slot_at e 1).paused
 
-unfoldable pub ready : Endpoint → Ready
+unfoldable pub ready : Endpoint → Option (ℕ × Outgoing)
 unfolding chosen
-ready e = if any_paused e then Nothing else chosen e
+ready e = if any_paused e then None else chosen e
 
 -- ---- what goes
 
 -- "Bytes behind the packet stay."
 abbrev pub sent : List ℕ → Endpoint → List ℕ → Polled
-sent bytes e buffer = polled_to (Packet (length bytes)) e (bytes ++ drop (length bytes) buffer)
+sent bytes e buffer = polled_to (Ok (Some (length bytes))) e (bytes ++ drop (length bytes) buffer)
 
-abbrev pub control_packet : Endpoint → List ℕ
-control_packet e = packet e.unit (route_to e e.reply_to e.reply_tag) e.reply 0
+abbrev pub control_packet : Endpoint → Reply → List ℕ
+control_packet e r = packet e.unit (route_to e r.to r.tag) r.message 0
 
-unfoldable pub sent_control : Endpoint → List ℕ → Polled
-sent_control e buffer = sent (control_packet e) (reply_sent e) buffer
+unfoldable pub sent_control : Endpoint → Reply → List ℕ → Polled
+sent_control e r buffer = sent (control_packet e r) (reply_sent e) buffer
 
 -- packet number `sent` of the response at the front of the slot's store
 abbrev pub command_packet : World → ℕ → Outgoing → List ℕ
@@ -101,23 +100,23 @@ sent_command w i r buffer =
     (packet_sent (with_slot w.endpoint i (after_packet w.endpoint.unit (slot_at w.endpoint i) r)) (other_slot i))
     buffer
 
--- a control reply waits, and the last packet handed out was not control
+-- a control reply that waits goes before a command packet: the last packet handed out was not control
 abbrev pub reply_first : Endpoint → Bool
-reply_first e = e.reply_waits && not e.last_control
+reply_first e = not e.last_control
 
 -- "If a control reply waits and either the last packet handed out was not control or no command packet is ready, it goes. Otherwise a
 -- ready command packet goes, else answer 0."
-abbrev pub polled_by : World → List ℕ → Ready → Polled
-polled_by w buffer Nothing =
-    if w.endpoint.reply_waits then sent_control w.endpoint buffer
-    else polled_to Silent w.endpoint buffer
-polled_by w buffer (From i r) =
-    if reply_first w.endpoint then sent_control w.endpoint buffer
+abbrev pub polled_by : World → List ℕ → Option Reply → Option (ℕ × Outgoing) → Polled
+polled_by w buffer None None = polled_to (Ok None) w.endpoint buffer
+polled_by w buffer None (Some (i, r)) = sent_command w i r buffer
+polled_by w buffer (Some reply) None = sent_control w.endpoint reply buffer
+polled_by w buffer (Some reply) (Some (i, r)) =
+    if reply_first w.endpoint then sent_control w.endpoint reply buffer
     else sent_command w i r buffer
 
 unfoldable pub polled : World → List ℕ → Polled
 unfolding ready sent_control sent_command
 polled w buffer =
-    if wrong_stores w then polled_to (Refused wrong_stores_number) w.endpoint buffer
-    else if ltb (length buffer) (packet_room w.endpoint) then polled_to (Refused short_buffer) w.endpoint buffer
-    else polled_by w buffer (ready w.endpoint)
+    if wrong_stores w then polled_to (Err wrong_stores_number) w.endpoint buffer
+    else if ltb (length buffer) (packet_room w.endpoint) then polled_to (Err short_buffer) w.endpoint buffer
+    else polled_by w buffer w.endpoint.reply (ready w.endpoint)

@@ -1,12 +1,11 @@
 -- "Entering Process", and the response that a slot then gets.
 -- Assumes nothing.
-use Rattle.std.specs.Prelude.{ℕ, ◌+◌, Bool, List, length, if◌then◌else◌}
+use Rattle.std.specs.Prelude.{Result, Ok, Err, ℕ, ◌+◌, Bool, List, length, if◌then◌else◌}
 use Rattle.lent.specs.Bytes.{put}
 use Rattle.nvme_mi.specs.Message.{command_fault}
 use Rattle.nvme_mi.specs.Response.{response, fault_body}
 use Rattle.nvme_mi.specs.declared.MessageHeader.{MessageHeader}
 use Rattle.nvme_mi.specs.declared.Fault.{Fault}
-use Rattle.nvme_mi.specs.declared.Fault.TheVariants.{NoFault, Parameter, Failure}
 use Rattle.machine.specs.State.{World, slot_at, store_at, with_slot, with_store, with_endpoint, on_slot, with_phase, slot, next_ticket, settled}
 use Rattle.machine.specs.Wire.{response_place}
 use Rattle.machine.specs.Control.{pause}
@@ -31,10 +30,9 @@ responded w i r body =
     (with_phase (slot_at w.endpoint i) (settled (slot_at w.endpoint i).paused (response_to r body)))
 
 -- "Next, the first that applies becomes the response at once"
-abbrev pub responded_at_once : World → ℕ → Request → Fault → World
-responded_at_once w i r NoFault = w
-responded_at_once w i r (Parameter byte bit) = responded w i r (fault_body (Parameter byte bit))
-responded_at_once w i r (Failure status) = responded w i r (fault_body (Failure status))
+abbrev pub responded_at_once : World → ℕ → Request → Result (Unit {0}) Fault → World
+responded_at_once w i r (Ok none) = w
+responded_at_once w i r (Err fault) = responded w i r (fault_body (Err fault))
 
 -- "With CIAP 1, Pause then acts (without a reply)."
 abbrev pub paused_if : Bool → Endpoint → Endpoint

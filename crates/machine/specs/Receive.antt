@@ -1,17 +1,15 @@
 -- "Receiving, in this order".
 -- Assumes nothing.
-use Rattle.std.specs.Prelude.{ℕ, ◌+◌, ◌^◌, Bool, true, false, not, ◌&&◌, List, [], ◌∷◌, eqb, length, take, if◌then◌else◌}
+use Rattle.std.specs.Prelude.{Result, Ok, Err, ℕ, ◌+◌, ◌^◌, Bool, true, false, not, ◌&&◌, List, [], ◌∷◌, Option, None, Some, eqb, length, take, if◌then◌else◌}
 use Rattle.std.specs.Int.Bits.{bit_or}
 use Rattle.lent.specs.Bytes.{put}
 use Rattle.mctp.specs.Header.{read_header, payload_of, too_long, wrong_version, not_ours, wrong_direction}
 use Rattle.mctp.specs.Gather.{join_refusal, not_full, no_assembly, out_of_sequence}
 use Rattle.mctp.specs.declared.Header.{Header}
-use Rattle.mctp.specs.declared.Read.{Read}
-use Rattle.mctp.specs.declared.Read.TheVariants.{Refused, Packet}
 use Rattle.nvme_mi.specs.Message.{message_header}
 use Rattle.opening.specs.Opening.{opened, joined_in, check_wrong}
 use Rattle.opening.specs.declared.First.{First}
-use Rattle.opening.specs.declared.First.TheVariants.{Refused as Unopened, Control, Command}
+use Rattle.opening.specs.declared.First.TheVariants.{Control, Command}
 use Rattle.opening.specs.declared.Joined.{Joined}
 use Rattle.opening.specs.declared.Joined.TheVariants.{More, Wrong, Whole}
 use Rattle.machine.specs.Answers.{more_to_come, command_complete, control_done, slot_not_idle, wrong_stores_number}
@@ -19,7 +17,7 @@ use Rattle.machine.specs.State.{World, Outcome, outcome, slot_at, store_at, with
 use Rattle.machine.specs.Wire.{store_size, inward, wrong_stores}
 use Rattle.machine.specs.Process.{entered}
 use Rattle.machine.specs.Control.{controlled}
-use Rattle.machine.specs.Types.{Assembly, Phase, Idle, Receive, Process, Answered, Transmit, Slot, Endpoint, Holder, Nowhere, At}
+use Rattle.machine.specs.Types.{Assembly, Phase, Idle, Receive, Process, Answered, Transmit, Slot, Endpoint}
 
 -- ---- the column "Flag bit" of both tables, and of SOM 0: No., bit. A number that is not here sets none; 20 sets its slot's bit 3.
 
@@ -79,15 +77,15 @@ unfoldable pub end_assembly : Endpoint → ℕ → ℕ → Endpoint
 end_assembly e source tag = on_both (ended_slot source tag) e
 
 -- the slot in Receive with this source and tag
-abbrev pub holder_in : ℕ → ℕ → ℕ → Phase → Holder → Holder
+abbrev pub holder_in : ℕ → ℕ → ℕ → Phase → Option (ℕ × Assembly) → Option (ℕ × Assembly)
 holder_in source tag i (Idle k) other = other
-holder_in source tag i (Receive a) other = if is_from source tag a then At i a else other
+holder_in source tag i (Receive a) other = if is_from source tag a then Some (i, a) else other
 holder_in source tag i (Process r) other = other
 holder_in source tag i (Answered r) other = other
 holder_in source tag i (Transmit r) other = other
 
-unfoldable pub holder : Endpoint → ℕ → ℕ → Holder
-holder e source tag = holder_in source tag 0 (slot_at e 0).phase (holder_in source tag 1 (slot_at e 1).phase Nowhere)
+unfoldable pub holder : Endpoint → ℕ → ℕ → Option (ℕ × Assembly)
+holder e source tag = holder_in source tag 0 (slot_at e 0).phase (holder_in source tag 1 (slot_at e 1).phase None)
 
 -- ---- a command's packet that is not refused: its payload goes behind the bytes so far
 
@@ -116,10 +114,10 @@ first_command w h i m =
     if not (is_idle (slot_at w.endpoint i).phase) then refused_busy w i
     else gathered w i 0 h m
 
-abbrev pub first_by : World → Header → List ℕ → First → Outcome
-first_by w h m (Unopened n) = refused w n
-first_by w h m Control = outcome control_done (with_endpoint w (controlled w.endpoint h (message_header m) m))
-first_by w h m Command = first_command w h (message_header m).csi m
+abbrev pub first_by : World → Header → List ℕ → Result First ℕ → Outcome
+first_by w h m (Err n) = refused w n
+first_by w h m (Ok Control) = outcome control_done (with_endpoint w (controlled w.endpoint h (message_header m) m))
+first_by w h m (Ok Command) = first_command w h (message_header m).csi m
 
 unfoldable pub first : World → Header → List ℕ → Outcome
 unfolding refused controlled first_command opened
@@ -134,9 +132,9 @@ later_at w i a h payload refusal =
     if eqb refusal 0 then gathered w i a.length h payload
     else refused (dropped w i) refusal
 
-abbrev pub later_by : World → Header → List ℕ → Holder → Outcome
-later_by w h payload Nowhere = refused w no_assembly
-later_by w h payload (At i a) =
+abbrev pub later_by : World → Header → List ℕ → Option (ℕ × Assembly) → Outcome
+later_by w h payload None = refused w no_assembly
+later_by w h payload (Some (i, a)) =
     later_at w i a h payload (join_refusal w.endpoint.unit store_size a.sequence a.length h (length payload))
 
 unfoldable pub later : World → Header → List ℕ → Outcome
@@ -145,9 +143,9 @@ later w h payload = later_by w h payload (holder w.endpoint h.source h.tag)
 
 -- ---- the whole
 
-abbrev pub received_by : World → List ℕ → Read → Outcome
-received_by w payload (Refused n) = refused w n
-received_by w payload (Packet h) =
+abbrev pub received_by : World → List ℕ → Result Header ℕ → Outcome
+received_by w payload (Err n) = refused w n
+received_by w payload (Ok h) =
     if h.som then first (with_endpoint w (end_assembly w.endpoint h.source h.tag)) h payload
     else later w h payload
 

@@ -2,7 +2,7 @@
 -- Last, the numbers that each call can answer. The proofs: `refused_packet`, `flag_column`, `wrong_stores_unchanged`, `refused_call` and `named`
 -- (proofs/Refusals).
 -- Assumes nothing.
-use Rattle.std.specs.Prelude.{ℕ, ◌%◌, ◌^◌, ◌≤◌, ◌≡◌, Bool, true, false, not, ◌&&◌, ◌||◌, List, [], ◌∷◌, map, eqb, if◌then◌else◌}
+use Rattle.std.specs.Prelude.{ℕ, ◌%◌, ◌^◌, ◌≤◌, ◌≡◌, Bool, true, false, not, ◌&&◌, ◌||◌, List, [], ◌∷◌, None, map, eqb, if◌then◌else◌}
 use Rattle.std.specs.Int.Bits.{bit_or}
 use Rattle.lent.specs.Bytes.{byte_at, put}
 use Rattle.machine.specs.State.{World, slot_at, store_at, with_endpoint, with_store, with_flags, on_slot, on_both}
@@ -12,7 +12,7 @@ use Rattle.machine.specs.Valid.{Valid, Sound, phased}
 use Rattle.machine.specs.History.{has_som, source_of, message_tag_of, bytes_from4, phase_at, receives_from, is_for, kind_of}
 use Rattle.machine.specs.Numbers.{right_sizes}
 use Rattle.machine.specs.Demands.{is_idle_now}
-use Rattle.machine.specs.Types.{NoResponse, Phase, Idle, Slot}
+use Rattle.machine.specs.Types.{Phase, Idle, Slot}
 
 abbrev pub is_one_of : ℕ → List ℕ → Bool
 is_one_of n [] = false
@@ -32,7 +32,7 @@ FlagColumn =
 
 -- a slot that goes to Idle keeps its ticket and its bit 3, loses its pause flag, and holds no response
 abbrev pub at_idle : Slot → Slot
-at_idle s = record { ticket = s.ticket; paused = false; busy = s.busy; phase = Idle NoResponse }
+at_idle s = record { ticket = s.ticket; paused = false; busy = s.busy; phase = Idle None }
 
 abbrev pub to_idle : World → ℕ → World
 to_idle w i = on_slot w i (at_idle (slot_at w.endpoint i))

@@ -2,20 +2,20 @@
 -- it. The words are written from the documents and borrow no test of the machine. The proofs: `held_is`, `held_moves`, `replay_sends`,
 -- `replay_arrives` (proofs/Replays).
 -- Assumes nothing.
-use Rattle.std.specs.Prelude.{ℕ, ◌+◌, ◌%◌, ◌≤◌, ◌≡◌, Bool, true, false, ◌&&◌, ◌||◌, List, [], eqb, length, take, if◌then◌else◌}
+use Rattle.std.specs.Prelude.{ℕ, ◌+◌, ◌%◌, ◌≤◌, ◌≡◌, Bool, true, false, ◌&&◌, ◌||◌, List, [], Option, None, Some, eqb, length, take, if◌then◌else◌}
 use Rattle.lent.specs.Bytes.{byte_at}
-use Rattle.machine.specs.State.{World, held_in, slot_at, store_at}
+use Rattle.machine.specs.State.{World, held_in, slot_at, store_at, reply_message}
 use Rattle.machine.specs.Calls.{Call, receive, of_call, Event, number, step}
 use Rattle.machine.specs.History.{History, bytes_from4, phase_at, is_transmit, is_for, by_number, is_primitive, cuts, unit_of, next, over_unit, packets_left, last_packet_out}
 use Rattle.machine.specs.Demands.{Every, Within, fate, most_polls}
 use Rattle.machine.specs.Refusals.{is_command}
 use Rattle.machine.specs.Replies.{no_cpsp, reply_of}
-use Rattle.machine.specs.Types.{Response, Held, NoResponse, Last}
+use Rattle.machine.specs.Types.{Response}
 
 -- ---- what is held
 
 -- what slot i holds; in a state other than Idle a slot holds nothing
-abbrev pub held_at : World → ℕ → Held
+abbrev pub held_at : World → ℕ → Option Response
 held_at w i = held_in (phase_at w i)
 
 -- the response for the slot's ticket: to the sender of the slot's last command, under its tag
@@ -31,7 +31,7 @@ pub record IsHeld (h : History) (i : ℕ) (r : Response) : Type 0 where
 
 -- WHAT IS HELD is the response for the slot's ticket, whole
 abbrev pub HeldIs : Type 0
-HeldIs = Every (λ h. (i : ℕ) → i ≤ 1 → (r : Response) → held_at h.world i ≡ Last r → IsHeld h i r)
+HeldIs = Every (λ h. (i : ℕ) → i ≤ 1 → (r : Response) → held_at h.world i ≡ Some r → IsHeld h i r)
 
 -- ---- how it comes and goes
 
@@ -51,12 +51,12 @@ replays i c w = of_call (λ p. is_replay i w.endpoint.eid p) (λ buffer. false) 
 
 -- after its last packet a slot holds the response. "The held response is lost once a command packet is stored for the slot [..], at its Abort and
 -- at reset"; a Replay sends it. Nothing else changes what a slot holds.
-abbrev pub held_after : ℕ → Call → History → Held
+abbrev pub held_after : ℕ → Call → History → Option Response
 held_after i c h =
-    if last_packet_out i c h then Last (response_of h i)
-    else if stores i c h.world (step c h.world).event then NoResponse
-    else if cuts i c h.world then NoResponse
-    else if replays i c h.world then NoResponse
+    if last_packet_out i c h then Some (response_of h i)
+    else if stores i c h.world (step c h.world).event then None
+    else if cuts i c h.world then None
+    else if replays i c h.world then None
     else held_at h.world i
 
 -- HOW IT COMES AND GOES. Any list of calls from any setup, any call, either slot.
@@ -69,7 +69,7 @@ HeldMoves = Every (λ h. (c : Call) (i : ℕ) → i ≤ 1 → held_at (step c h.
 -- the slot's ticket and its entries are as they were. The reply's CPSR is 1.
 pub record SentAgain (h : History) (i : ℕ) (p : List ℕ) : Type 0 where
   pub done : (step (receive p) h.world).event ≡ number 2
-  pub reply_is : (next (receive p) h).world.endpoint.reply ≡ reply_of (bytes_from4 p) 1
+  pub reply_is : reply_message (next (receive p) h).world.endpoint.reply ≡ reply_of (bytes_from4 p) 1
   pub in_transmit : is_transmit (phase_at (next (receive p) h).world i) ≡ true
   pub none_went : ((next (receive p) h).trace i).packets ≡ 0
   pub none_paid : ((next (receive p) h).trace i).payloads ≡ []
@@ -82,10 +82,10 @@ pub record SentAgain (h : History) (i : ℕ) (p : List ℕ) : Type 0 where
 
 -- A REPLAY SENDS WHAT IS HELD
 abbrev pub ReplaySends : Type 0
-ReplaySends = Every (λ h. (p : List ℕ) (i : ℕ) → i ≤ 1 → is_replay i h.world.endpoint.eid p ≡ true → (r : Response) → held_at h.world i ≡ Last r → SentAgain h i p)
+ReplaySends = Every (λ h. (p : List ℕ) (i : ℕ) → i ≤ 1 → is_replay i h.world.endpoint.eid p ≡ true → (r : Response) → held_at h.world i ≡ Some r → SentAgain h i p)
 
 -- A REPLAYED RESPONSE IS NOT LOST. It goes out whole with at most `most_polls` more polls counted, unless the slot is aborted or the endpoint reset.
 abbrev pub ReplayArrives : Type 0
 ReplayArrives =
-    Every (λ h. (p : List ℕ) (i : ℕ) → i ≤ 1 → is_replay i h.world.endpoint.eid p ≡ true → (r : Response) → held_at h.world i ≡ Last r → (ys : List Call)
+    Every (λ h. (p : List ℕ) (i : ℕ) → i ≤ 1 → is_replay i h.world.endpoint.eid p ≡ true → (r : Response) → held_at h.world i ≡ Some r → (ys : List Call)
     → Within (h.counted + most_polls (unit_of h.world)) i (h.trace i).response (fate i ys (next (receive p) h)))

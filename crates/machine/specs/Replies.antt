@@ -1,7 +1,8 @@
 -- The control reply: what it says, what its primitive leaves, and that it is handed out. Its words are written from the document and borrow no
 -- test of the machine. The proofs: `primitive_done`, `control_replied`, `reply_stays` and `reply_goes` (proofs/Replies).
 -- Assumes nothing.
-use Rattle.std.specs.Prelude.{ℕ, ◌+◌, ◌/◌, ◌%◌, ◌≤◌, ◌<◌, ◌≡◌, Bool, true, false, not, ◌&&◌, ◌||◌, List, [], ◌∷◌, ◌++◌, eqb, ltb, if◌then◌else◌}
+use Rattle.std.specs.Prelude.{ℕ, ◌+◌, ◌/◌, ◌%◌, ◌≤◌, ◌<◌, ◌≡◌, Bool, true, false, not, ◌&&◌, ◌||◌, List, [], ◌∷◌, ◌++◌, Option, None, Some, eqb, ltb, if◌then◌else◌}
+use Rattle.std.specs.Option.{is_some}
 use Rattle.lent.specs.Bytes.{byte_at, is_set}
 use Rattle.nvme_mi.specs.Check.{with_check}
 use Rattle.machine.specs.State.{World, slot, slot_at, held_in}
@@ -10,7 +11,7 @@ use Rattle.machine.specs.Valid.{phased, Sound}
 use Rattle.machine.specs.Calls.{Call, receive, poll, reset, of_call, Event, number, given, part_read, handed_out, Stepped, step}
 use Rattle.machine.specs.History.{source_of, message_tag_of, bytes_from4, phase_at, paused_at, receives_from, is_packet_of, by_number, has_room, one?, is_control}
 use Rattle.machine.specs.Demands.{Every, is_idle_now, reply_packet}
-use Rattle.machine.specs.Types.{Taking, Untaken, Taken, Held, NoResponse, Last, Phase, Idle, Transmit, Slot, Endpoint}
+use Rattle.machine.specs.Types.{Taking, Untaken, Taken, Response, Phase, Idle, Transmit, Slot, Endpoint}
 
 -- ---- what a control primitive says: a message m of header, opcode, TAG, CPSP (2), check
 
@@ -40,7 +41,7 @@ PrimitiveDone = (w : World) (p : List ℕ) → Sound w → eqb (received w p).an
 -- Idle loses its pause flag and holds no response.
 abbrev pub slot_found : World → List ℕ → ℕ → Slot
 slot_found w p i =
-    if receives_from (source_of p) (message_tag_of p) (phase_at w i) then slot (slot_at w.endpoint i).ticket false (slot_at w.endpoint i).busy (Idle NoResponse)
+    if receives_from (source_of p) (message_tag_of p) (phase_at w i) then slot (slot_at w.endpoint i).ticket false (slot_at w.endpoint i).busy (Idle None)
     else slot_at w.endpoint i
 
 -- ---- CPSR
@@ -63,9 +64,9 @@ abbrev pub state_of : Phase → ℕ
 state_of = phased 0 (λ a. 1) (λ r. 2) (λ r. 2) (λ r. 3)
 
 -- Replay: 1 if the slot is Idle and holds a response, else 0
-abbrev pub holds_one : Held → ℕ
-holds_one NoResponse = 0
-holds_one (Last r) = 1
+abbrev pub holds_one : Option Response → ℕ
+holds_one None = 0
+holds_one (Some r) = 1
 
 -- of a primitive m that finds its slot as s and these flags. Pause: the pause flags of slots 0 and 1 afterwards, bits 0 and 1. Resume: 0. Get
 -- State: the slot's state, its bit 3, the endpoint's bits 4 to 12 and 14, and its pause flag as bit 15.
@@ -99,9 +100,9 @@ abbrev pub unpaused : Phase → Phase
 unpaused p = phased p (λ a. p) (λ r. p) (λ r. Transmit (record { response = r; sent = 0 })) (λ r. p) p
 
 -- Replay: the response that the slot holds goes to Transmit, none of its packets sent; a slot that holds none stays as it is
-abbrev pub sent_again : Held → Slot → Slot
-sent_again NoResponse s = s
-sent_again (Last r) s = slot s.ticket s.paused s.busy (Transmit (record { response = r; sent = 0 }))
+abbrev pub sent_again : Option Response → Slot → Slot
+sent_again None s = s
+sent_again (Some r) s = slot s.ticket s.paused s.busy (Transmit (record { response = r; sent = 0 }))
 
 -- slot j, found as s. Pause: the flag of each slot that is not Idle. Resume: no flag. Abort: the primitive's slot is Idle and
 -- holds no response. Get State: with CPSP bit 0, the slot's bit 3 is cleared. Replay: what the slot holds is sent again; its ticket stays.
@@ -110,7 +111,7 @@ acted_on m j s =
     if eqb (byte_at m 4) 0 then slot s.ticket (not (is_idle_now s.phase)) s.busy s.phase
     else if eqb (byte_at m 4) 1 then slot s.ticket false s.busy (unpaused s.phase)
     else if not (eqb j (csi_of m)) then s
-    else if eqb (byte_at m 4) 2 then slot s.ticket false s.busy (Idle NoResponse)
+    else if eqb (byte_at m 4) 2 then slot s.ticket false s.busy (Idle None)
     else if eqb (byte_at m 4) 3 then (if is_set (byte_at m 6) 0 then slot s.ticket s.paused false s.phase else s)
     else sent_again (held_in s.phase) s
 
@@ -121,10 +122,13 @@ flags_after m flags = if eqb (byte_at m 4) 3 && is_set (byte_at m 6) 0 then 0 el
 -- a primitive in packet p, and the world after it
 pub record Replied (w : World) (p : List ℕ) (after : World) : Type 0 where
   -- a reply waits, for the packet's sender under its tag
-  pub waits : after.endpoint.reply_waits ≡ true
-  pub to : after.endpoint.reply_to ≡ source_of p
-  pub under : after.endpoint.reply_tag ≡ message_tag_of p
-  pub reply_is : after.endpoint.reply ≡ reply_of (bytes_from4 p) (cpsr_of (bytes_from4 p) (slot_found w p (csi_of (bytes_from4 p))) w.endpoint.flags after)
+  pub reply_is :
+      after.endpoint.reply
+      ≡ Some (record {
+        to = source_of p;
+        tag = message_tag_of p;
+        message = reply_of (bytes_from4 p) (cpsr_of (bytes_from4 p) (slot_found w p (csi_of (bytes_from4 p))) w.endpoint.flags after);
+      })
   -- an error changes no slot and no flag
   pub slots_are : (j : ℕ) → j ≤ 1 → slot_at after.endpoint j ≡ (if is_error (bytes_from4 p) then slot_found w p j else acted_on (bytes_from4 p) j (slot_found w p j))
   pub flags_are : after.endpoint.flags ≡ (if is_error (bytes_from4 p) then w.endpoint.flags else flags_after (bytes_from4 p) w.endpoint.flags)
@@ -152,12 +156,9 @@ abbrev pub is_control_out : World → Stepped → Bool
 is_control_out w s =
     is_packet s.event && not (is_packet_of (phase_at w 0) (phase_at s.world 0) s.event) && not (is_packet_of (phase_at w 1) (phase_at s.world 1) s.event)
 
--- the same reply for the same requester, waiting or not as before
+-- the same reply for the same requester, or none as before
 pub record SameReply (e f : Endpoint) : Type 0 where
-  pub same_waits : f.reply_waits ≡ e.reply_waits
   pub same_reply : f.reply ≡ e.reply
-  pub same_to : f.reply_to ≡ e.reply_to
-  pub same_tag : f.reply_tag ≡ e.reply_tag
   pub same_eid : f.eid ≡ e.eid
 
 -- a receive that answers 2, or a reset: the reply that waited is replaced or gone
@@ -169,12 +170,12 @@ pub data ReplyAfter (w : World) : Call → Stepped → Type 0 where
   -- it stays, and no control packet is handed out
   stays : {c : Call} {s : Stepped} → replaces c s.event ≡ false → is_control_out w s ≡ false → SameReply w.endpoint s.world.endpoint → ReplyAfter w c s
   -- it waited, a poll hands it out, and it waits no more
-  goes : {buffer : List ℕ} {s : Stepped} → w.endpoint.reply_waits ≡ true → is_control_out w s ≡ true → s.event ≡ handed_out (reply_packet w.endpoint)
-      → s.world.endpoint.reply_waits ≡ false → ReplyAfter w (poll buffer) s
+  goes : {buffer : List ℕ} {s : Stepped} → is_some w.endpoint.reply ≡ true → is_control_out w s ≡ true → s.event ≡ handed_out (reply_packet w.endpoint)
+      → s.world.endpoint.reply ≡ None → ReplyAfter w (poll buffer) s
   -- "a newer one replaces it"
   newer : {p : List ℕ} {s : Stepped} → is_control_out w s ≡ false → s.event ≡ number 2 → ReplyAfter w (receive p) s
   -- reset: "control reply gone"
-  by_reset : {s : Stepped} → is_control_out w s ≡ false → s.world.endpoint.reply_waits ≡ false → ReplyAfter w reset s
+  by_reset : {s : Stepped} → is_control_out w s ≡ false → s.world.endpoint.reply ≡ None → ReplyAfter w reset s
 
 -- A WAITING REPLY STAYS until a poll hands it out, a newer one replaces it, or a reset; and it is handed out once. Any call, in any sound state.
 abbrev pub ReplyStays : Type 0
@@ -211,4 +212,4 @@ GoesWithin most e (waiting n f) = (n < most) × SameReply e f
 -- A WAITING REPLY GOES. Any list of calls from any setup, after which a reply waits, and any later list: unless a newer one replaces it or a
 -- reset comes first, that reply is handed out by the second poll with room.
 abbrev pub ReplyGoes : Type 0
-ReplyGoes = Every (λ h. h.world.endpoint.reply_waits ≡ true → (ys : List Call) → GoesWithin 2 h.world.endpoint (reply_fate 0 ys h.world))
+ReplyGoes = Every (λ h. is_some h.world.endpoint.reply ≡ true → (ys : List Call) → GoesWithin 2 h.world.endpoint (reply_fate 0 ys h.world))

@@ -1,7 +1,7 @@
 -- The state, "The endpoint has two slots, kept side by side and chosen by number", and both lent stores.
 -- Assumes nothing.
-use Rattle.std.specs.Prelude.{ℕ, ◌+◌, ◌%◌, ◌^◌, Bool, true, false, List, [], ◌∷◌, eqb, get_or, set, if◌then◌else◌}
-use Rattle.machine.specs.Types.{Ticket, Response, Outgoing, Held, NoResponse, Last, Phase, Idle, Receive, Process, Answered, Transmit, Slot, Endpoint, Done}
+use Rattle.std.specs.Prelude.{ℕ, ◌+◌, ◌%◌, ◌^◌, Bool, true, false, List, [], ◌∷◌, Option, None, Some, eqb, get_or, set, if◌then◌else◌}
+use Rattle.machine.specs.Types.{Ticket, Response, Outgoing, Phase, Idle, Receive, Process, Answered, Transmit, Slot, Reply, Endpoint}
 
 -- ---- tickets
 
@@ -19,7 +19,7 @@ slot t paused busy phase = record { ticket = t; paused = paused; busy = busy; ph
 
 -- an Idle slot with nothing but its ticket count
 abbrev pub fresh : Ticket → Slot
-fresh t = slot t false false (Idle NoResponse)
+fresh t = slot t false false (Idle None)
 
 abbrev pub with_phase : Slot → Phase → Slot
 with_phase s p = slot s.ticket s.paused s.busy p
@@ -32,19 +32,19 @@ with_busy s b = slot s.ticket s.paused b s.phase
 
 -- "Any slot entering Idle loses its pause flag." On every way but the one below it holds no response then.
 abbrev pub idled : Slot → Slot
-idled s = slot s.ticket false s.busy (Idle NoResponse)
+idled s = slot s.ticket false s.busy (Idle None)
 
 -- after the last packet of its response: Idle, and the slot "still holds its last response"
 abbrev pub holding : Slot → Response → Slot
-holding s r = slot s.ticket false s.busy (Idle (Last r))
+holding s r = slot s.ticket false s.busy (Idle (Some r))
 
 -- what a slot holds: only an Idle one has it
-abbrev pub held_in : Phase → Held
+abbrev pub held_in : Phase → Option Response
 held_in (Idle k) = k
-held_in (Receive a) = NoResponse
-held_in (Process r) = NoResponse
-held_in (Answered r) = NoResponse
-held_in (Transmit r) = NoResponse
+held_in (Receive a) = None
+held_in (Process r) = None
+held_in (Answered r) = None
+held_in (Transmit r) = None
 
 -- whether it holds a response or not
 abbrev pub is_idle : Phase → Bool
@@ -64,17 +64,19 @@ settled paused r = if paused then Answered r else Transmit (outgoing r 0)
 
 -- ---- the endpoint
 
-abbrev pub endpoint : ℕ → ℕ → List Slot → ℕ → List ℕ → Bool → ℕ → ℕ → ℕ → Bool → Endpoint
-endpoint eid unit slots flags reply waits to tag turn last =
+-- the bytes of the control reply that waits; where none waits, no bytes
+abbrev pub reply_message : Option Reply → List ℕ
+reply_message None = []
+reply_message (Some r) = r.message
+
+abbrev pub endpoint : ℕ → ℕ → List Slot → ℕ → Option Reply → ℕ → Bool → Endpoint
+endpoint eid unit slots flags reply turn last =
     record {
       eid = eid;
       unit = unit;
       slots = slots;
       flags = flags;
       reply = reply;
-      reply_waits = waits;
-      reply_to = to;
-      reply_tag = tag;
       turn = turn;
       last_control = last;
     }
@@ -83,7 +85,7 @@ abbrev pub slot_at : Endpoint → ℕ → Slot
 slot_at e i = get_or e.slots i (fresh (ticket 0))
 
 abbrev pub with_slots : Endpoint → List Slot → Endpoint
-with_slots e l = endpoint e.eid e.unit l e.flags e.reply e.reply_waits e.reply_to e.reply_tag e.turn e.last_control
+with_slots e l = endpoint e.eid e.unit l e.flags e.reply e.turn e.last_control
 
 -- another slot at a number, all else as it was
 abbrev pub with_slot : Endpoint → ℕ → Slot → Endpoint
@@ -94,19 +96,19 @@ abbrev pub on_both : (Slot → Slot) → Endpoint → Endpoint
 on_both f e = with_slots e (f (slot_at e 0) ∷ f (slot_at e 1) ∷ [])
 
 abbrev pub with_flags : Endpoint → ℕ → Endpoint
-with_flags e f = endpoint e.eid e.unit e.slots f e.reply e.reply_waits e.reply_to e.reply_tag e.turn e.last_control
+with_flags e f = endpoint e.eid e.unit e.slots f e.reply e.turn e.last_control
 
 -- a control reply waits, for this requester under this tag; a newer one replaces it whole
 abbrev pub with_reply : Endpoint → List ℕ → ℕ → ℕ → Endpoint
-with_reply e reply to tag = endpoint e.eid e.unit e.slots e.flags reply true to tag e.turn e.last_control
+with_reply e message to tag = endpoint e.eid e.unit e.slots e.flags (Some (record { to = to; tag = tag; message = message })) e.turn e.last_control
 
 -- the control reply has gone
 abbrev pub reply_sent : Endpoint → Endpoint
-reply_sent e = endpoint e.eid e.unit e.slots e.flags e.reply false e.reply_to e.reply_tag e.turn true
+reply_sent e = endpoint e.eid e.unit e.slots e.flags None e.turn true
 
 -- a command packet has gone; `turn` is the slot that goes first when none is begun
 abbrev pub packet_sent : Endpoint → ℕ → Endpoint
-packet_sent e turn = endpoint e.eid e.unit e.slots e.flags e.reply e.reply_waits e.reply_to e.reply_tag turn false
+packet_sent e turn = endpoint e.eid e.unit e.slots e.flags e.reply turn false
 
 -- ---- the endpoint and both lent stores
 
@@ -139,5 +141,9 @@ abbrev pub outcome : ℕ → World → Outcome
 outcome n w = record { answer = n; world = w }
 
 -- what a call that is lent no store answers, and the state that it leaves
+pub record Done : Type 0 where
+  pub answer : ℕ
+  pub endpoint : Endpoint
+
 abbrev pub ended : ℕ → Endpoint → Done
 ended n e = record { answer = n; endpoint = e }

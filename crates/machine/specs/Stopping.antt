@@ -4,7 +4,7 @@
 -- Assumes nothing.
 use Rattle.std.specs.Prelude.{ℕ, ◌≤◌, ◌≡◌, Bool, true, false, ◌||◌, List, [], ◌∷◌, ◌++◌, eqb, length, if◌then◌else◌}
 use Rattle.lent.specs.Bytes.{byte_at}
-use Rattle.machine.specs.State.{World, slot, slot_at, on_slot}
+use Rattle.machine.specs.State.{World, slot, slot_at, on_slot, reply_message}
 use Rattle.machine.specs.Valid.{phased}
 use Rattle.machine.specs.Calls.{Call, receive, declare, number, step}
 use Rattle.machine.specs.History.{Trace, History, bytes_from4, phase_at, is_abort, next, run, start}
@@ -80,7 +80,7 @@ abort_told h p i = phased 0 (λ a. 1) (λ r. told_of (h.trace i)) (λ r. 0) (λ 
 abbrev pub AbortTells : Type 0
 AbortTells =
     Every (λ h. (p : List ℕ) (i : ℕ) → i ≤ 1 → is_abort i h.world.endpoint.eid p ≡ true
-    → ((step (receive p) h.world).event ≡ number 2) × ((step (receive p) h.world).world.endpoint.reply ≡ reply_of (bytes_from4 p) (abort_told h p i)))
+    → ((step (receive p) h.world).event ≡ number 2) × (reply_message (step (receive p) h.world).world.endpoint.reply ≡ reply_of (bytes_from4 p) (abort_told h p i)))
 
 -- ---- a command that was told as stopped
 
@@ -104,4 +104,4 @@ ToldStopped =
     (eid unit : ℕ) (store0 store1 : List ℕ) → length store0 ≡ 4224 → length store1 ≡ 4224 → (xs : List Call) (p : List ℕ) (i : ℕ) → i ≤ 1
     → let h = run xs (start eid unit store0 store1) in
     is_abort i h.world.endpoint.eid p ≡ true → is_process (phase_at h.world i) ≡ true
-    → byte_at (step (receive p) h.world).world.endpoint.reply 6 ≡ 1 → Stopped (start eid unit store0 store1) i xs (receive p)
+    → byte_at (reply_message (step (receive p) h.world).world.endpoint.reply) 6 ≡ 1 → Stopped (start eid unit store0 store1) i xs (receive p)

@@ -2,14 +2,14 @@
 -- the order in which an image of a state would be tested, and as facts by name; `valid_facts` and `facts_valid` (proofs/Invariant)
 -- show that the two say the same.
 -- Assumes nothing.
-use Rattle.std.specs.Prelude.{ℕ, ◌*◌, ◌/◌, ◌%◌, ◌^◌, ◌≤◌, ◌<◌, ◌≡◌, Bool, true, false, not, ◌&&◌, ◌||◌, List, [], ◌∷◌, eqb, leb, ltb, length}
+use Rattle.std.specs.Prelude.{ℕ, ◌*◌, ◌/◌, ◌%◌, ◌^◌, ◌≤◌, ◌<◌, ◌≡◌, Bool, true, false, not, ◌&&◌, ◌||◌, List, [], ◌∷◌, Option, None, Some, eqb, leb, ltb, length}
 use Rattle.mctp.specs.Setup.{first_eid, last_eid, least_unit, most_unit}
 use Rattle.nvme_mi.specs.Message.{smallest}
 use Rattle.machine.specs.State.{World, is_idle, held_in}
 use Rattle.machine.specs.Wire.{store_size}
 use Rattle.machine.specs.Receive.{gathers}
 use Rattle.machine.specs.Poll.{other_slot}
-use Rattle.machine.specs.Types.{Assembly, Request, Response, Outgoing, Held, NoResponse, Last, Phase, Idle, Receive, Process, Answered, Transmit, Slot, Endpoint}
+use Rattle.machine.specs.Types.{Assembly, Request, Response, Outgoing, Phase, Idle, Receive, Process, Answered, Transmit, Slot, Reply, Endpoint}
 
 -- ---- as a test
 
@@ -45,9 +45,9 @@ abbrev pub packet_left : ℕ → Phase → Bool
 packet_left unit = phased true (λ a. true) (λ r. true) (λ r. true) (λ r. ltb (unit * r.sent) r.response.length)
 
 -- what is held fits its store
-abbrev pub held_fits : Held → Bool
-held_fits NoResponse = true
-held_fits (Last r) = between smallest_response store_size r.length
+abbrev pub held_fits : Option Response → Bool
+held_fits None = true
+held_fits (Some r) = between smallest_response store_size r.length
 
 -- the request fits its store, and so does the response, also one that is held
 abbrev pub message_fits : Phase → Bool
@@ -66,6 +66,11 @@ is_begun = phased false (λ a. false) (λ r. false) (λ r. false) (λ r. ltb 0 r
 -- where slot i's response is begun, the other slot goes first next
 abbrev pub begun_turn : ℕ → ℕ → Phase → Bool
 begun_turn turn i p = not (is_begun p) || eqb turn (other_slot i)
+
+-- a control reply has twelve bytes
+abbrev pub reply_fits : Option Reply → Bool
+reply_fits None = true
+reply_fits (Some r) = eqb (length r.message) 12
 
 -- bits 4 to 12 and 14 alone
 abbrev pub flags_right : ℕ → Bool
@@ -89,7 +94,7 @@ clauses e s t =
     ∷ (waits_paused s && waits_paused t)
     ∷ (begun_turn e.turn 0 s.phase && begun_turn e.turn 1 t.phase)
     ∷ flags_right e.flags
-    ∷ eqb (length e.reply) 12
+    ∷ reply_fits e.reply
     ∷ []
 
 abbrev pub valid_with : Endpoint → List Slot → Bool
@@ -109,9 +114,9 @@ pub record Fits (r : Response) : Type 0 where
   pub least : smallest_response ≤ r.length
   pub most : r.length ≤ store_size
 
-abbrev pub HeldFacts : Held → Type 0
-HeldFacts NoResponse = Unit {0}
-HeldFacts (Last r) = Fits r
+abbrev pub HeldFacts : Option Response → Type 0
+HeldFacts None = Unit {0}
+HeldFacts (Some r) = Fits r
 
 -- what a slot's phase promises, with the endpoint's unit and the slot's pause flag
 abbrev pub PhaseFacts : ℕ → Bool → Phase → Type 0
@@ -141,11 +146,15 @@ pub record ValidNumbers (eid unit turn : ℕ) : Type 0 where
   pub unit_most : unit ≤ most_unit
   pub turn_most : turn ≤ 1
 
+abbrev pub ReplyFacts : Option Reply → Type 0
+ReplyFacts None = Unit {0}
+ReplyFacts (Some r) = length r.message ≡ 12
+
 pub record Valid (e : Endpoint) : Type 0 where
   pub numbers : ValidNumbers e.eid e.unit e.turn
   pub slots_valid : ValidSlots e.unit e.turn e.slots
   pub flags_valid : ValidFlags e.flags
-  pub reply_twelve : length e.reply ≡ 12
+  pub reply_twelve : ReplyFacts e.reply
 
 -- ---- with both stores, of the length that is asked for
 

@@ -1,4 +1,4 @@
-// The flags of the Get State word, each at its bit. The flag of a refusal has the answer's name.
+// The flags of the Get State word, each at its bit. They are masks of one number and no type of flags, as `state_word` of specs/ has them. The flag of a refusal has the refusal's name; that of `NotExpected` is SLOT_NOT_IDLE.
 
 // The slot's own.
 pub const SLOT_NOT_IDLE: u16 = 1 << 3;

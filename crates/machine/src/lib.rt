@@ -1,16 +1,23 @@
 // The endpoint's state, and what its calls answer. The machine itself, what every call answers and leaves, is defined in specs/.
 #![tactic(auto)]
 
-pub mod answers;
+ghost use Rattle.std.specs.Prelude.{◌≡◌};
+ghost use Rattle.machine.specs.Answers.{received_number, receive_says};
+ghost use Rattle.machine.specs.Receive.{assembly};
+
 pub mod flags;
 pub mod sizes;
+mod valid;
 
 pub use mctp::FIRST_EID;
+use mctp::Header;
+use refusals::Refusal;
 use sizes::CONTROL_SIZE;
+pub use valid::ValidEndpoint;
 
 // Document 01's ticket: the number of a command of its slot, modulo 2^32. It is a kind of number of its own, never mixed with a
 // slot number.
-#[derive(Clone, Copy)]
+#[derive(Clone, Copy, Debug, PartialEq, Eq)]
 pub struct Ticket(pub u32);
 
 // A command that is being gathered: who sends it under which message tag, the last packet's sequence number, the bytes so far.
@@ -22,15 +29,30 @@ pub struct Assembly {
     pub length: usize,
 }
 
+impl Assembly {
+    // The assembly of which this packet is the last so far, with so many bytes.
+    pub fn with(header: Header, length: usize) -> Assembly
+        ensures { result ≡ assembly header length }
+    {
+        Assembly {
+            source: header.source,
+            tag: header.tag,
+            sequence: header.sequence,
+            length,
+        }
+    }
+}
+
 // Whether the drive's software has taken a command. A taken one has the mark whether it can still be stopped, as declared last; no other command
-// has a mark.
+// has a mark. `Option<bool>` is no plainer: `Some(false)` would not say that the command is taken.
 #[derive(Clone, Copy)]
 pub enum Taking {
     Untaken,
     Taken(bool),
 }
 
-// A command that awaits its response: its NMIMT (`kind`), and its length with the check.
+// A command that awaits its response: its NMIMT (`kind`), and its length with the check. The kind is a number and no enum, since a command of an
+// unknown one is answered under that same number (`responded`).
 #[derive(Clone, Copy)]
 pub struct Request {
     pub source: u8,
@@ -55,17 +77,11 @@ pub struct Outgoing {
     pub sent: usize,
 }
 
-// What an Idle slot still holds for a Replay: nothing, or its last response, whose last packet went.
-#[derive(Clone, Copy)]
-pub enum Held {
-    NoResponse,
-    Last(Response),
-}
-
-// Each state of a slot holds what only that state has. `Answered` is Process with its response there.
+// Each state of a slot holds what only that state has. An Idle slot may still hold, for a Replay, its last response, whose last packet went.
+// `Answered` is Process with its response there.
 #[derive(Clone, Copy)]
 pub enum Phase {
-    Idle(Held),
+    Idle(Option<Response>),
     Receive(Assembly),
     Process(Request),
     Answered(Response),
@@ -81,81 +97,59 @@ pub struct Slot {
     pub phase: Phase,
 }
 
-// The endpoint. `unit` is the largest payload of a packet; as a byte it keeps the state at 128 bytes, which are copied without a call. `flags` has
-// bits 4 to 12 and 14 of Get State at their places. `reply` waits for the requester `reply_to` under `reply_tag` where `reply_waits` is set. `turn`
-// is the slot that goes first where no response is begun. `last_control` says that the last packet handed out was control.
+// A control reply that waits: for whom, under which message tag, and the message.
+#[derive(Clone, Copy)]
+pub struct Reply {
+    pub to: u8,
+    pub tag: u8,
+    pub message: [u8; CONTROL_SIZE],
+}
+
+// The endpoint. `unit` is the largest payload of a packet. `flags` has bits 4 to 12 and 14 of Get State at their places. `reply` is the control reply
+// that waits. `turn` is the slot that goes first where no response is begun. `last_control` says that the last packet handed out was control.
 #[derive(Clone, Copy)]
 pub struct Endpoint {
     pub eid: u8,
     pub unit: u8,
     pub slots: [Slot; 2],
     pub flags: u16,
-    pub reply: [u8; CONTROL_SIZE],
-    pub reply_waits: bool,
-    pub reply_to: u8,
-    pub reply_tag: u8,
+    pub reply: Option<Reply>,
     pub turn: usize,
     pub last_control: bool,
 }
 
-// What a call answers by number, and the state that it leaves.
+// What setup answers, and the state beside it: a refusal has one too, that for EID 8 and the unit 64 (`was_set_up`). So it is no `Result` of the state.
+// The requester's setup has a struct like it with its own state; a type parameter for the state would say less.
 #[derive(Clone, Copy)]
-pub struct Done {
-    pub answer: u8,
-    pub endpoint: Endpoint,
+pub struct SetUp {
+    pub answer: Result<(), Refusal>,
+    pub endpoint: ValidEndpoint,
 }
 
-// Taking a command: refused by number, or its ticket.
-#[derive(Clone, Copy)]
-pub enum TakeAnswer {
-    Refused(u8),
-    Given(Ticket),
+// What a packet that is not refused did: a command's packet was taken in and more are to come; a command is complete; a control primitive was
+// answered, also with an error reply. Each is document 01's number for it; `number` says it.
+#[derive(Clone, Copy, Debug, PartialEq, Eq)]
+pub enum Received {
+    MoreToCome = 0,
+    CommandComplete = 1,
+    ControlDone = 2,
 }
 
-#[derive(Clone, Copy)]
-pub struct TakeDone {
-    pub answer: TakeAnswer,
-    pub endpoint: Endpoint,
+impl Received {
+    // Document 01's number. It is a method with a name and no `From`: a byte has other readings.
+    pub fn number(self) -> u8
+        ensures { result ≡ received_number self }
+    {
+        self as u8
+    }
 }
 
-// A ticket that is presented for a slot, in completing and in declaring: refused by number, or the taken command that it belongs to.
-#[derive(Clone, Copy)]
-pub enum Presented {
-    Unmatched(u8),
-    Matched(Request),
-}
-
-// Polling: refused by number, nothing to send, or a packet of this length at the buffer's front.
-#[derive(Clone, Copy)]
-pub enum PollAnswer {
-    Refused(u8),
-    Nothing,
-    Packet(usize),
-}
-
-#[derive(Clone, Copy)]
-pub struct PollDone {
-    pub answer: PollAnswer,
-    pub endpoint: Endpoint,
-}
-
-// The slot that gathers a command from a source under a tag.
-#[derive(Clone, Copy)]
-pub enum Holder {
-    Nowhere,
-    At(usize, Assembly),
-}
-
-// The slot whose packet goes next.
-#[derive(Clone, Copy)]
-pub enum Ready {
-    Nothing,
-    From(usize, Outgoing),
-}
-
-// What a control primitive reports in CPSR, and the state that it leaves.
-#[derive(Clone, Copy)]
-pub struct Acted {
-    pub endpoint: Endpoint,
-    pub cpsr: u16,
+// Document 01's number for what receiving a packet answers.
+pub fn receive_number(answer: Result<Received, Refusal>) -> u8
+    ensures { result ≡ receive_says answer }
+{
+    match answer {
+        Ok(received) => received.number(),
+        Err(refusal) => refusal.number(),
+    }
 }

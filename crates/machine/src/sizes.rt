@@ -5,6 +5,9 @@ pub use nvme_mi::{CONTROL_SIZE, SMALLEST};
 // Each slot's store, and the longest message.
 pub const STORE_SIZE: usize = 4224;
 
+// A lent store of that length.
+pub type Store = [u8; STORE_SIZE];
+
 // A response's body runs from the status to before the check.
 pub const SHORTEST_BODY: usize = 4;
 

@@ -18,7 +18,7 @@ use Rattle.mctp.specs.Cut.{packets, payload, packet, cut_from, cut}
 use Rattle.mctp.specs.Gather.{Gathered, nothing, refused, more, whole, Assembling, is_cut, join_refusal, joined, first, gather_read, gather}
 use Rattle.mctp.specs.declared.Header.{Header}
 use Rattle.mctp.specs.declared.Route.{Route}
-use Rattle.mctp.specs.declared.Read.TheVariants.{Packet}
+use Rattle.std.specs.Prelude.{Ok}
 use Rattle.mctp.proofs.Laws.{packets_bounds, last_packet, last_left, payload_length, payload_next, header_of, read_of_cut}
 
 -- the assembly after packet k
@@ -46,7 +46,7 @@ ends true g a b h = ap whole (h refl)
 ends false g a b h = refl
 
 -- a packet with SOM starts anew, whatever was there
-opens : (unit limit : ℕ) (g : Gathered) (h : Header) (p : List ℕ) → h.som ≡ true → gather_read unit limit g p (Packet h) ≡ first unit h p
+opens : (unit limit : ℕ) (g : Gathered) (h : Header) (p : List ℕ) → h.som ≡ true → gather_read unit limit g p (Ok h) ≡ first unit h p
 opens unit limit nothing h p e = rw e
 opens unit limit (refused n) h p e = rw e
 opens unit limit (more a) h p e = rw e

@@ -1,12 +1,11 @@
 -- Laws of setup, and of a message's packets: how many there are and which is the last, what each carries, and that each is read as it was cut.
 -- Assumes nothing.
-use Prim.Native.Nat.{ℕ, min, zero, suc, ◌+◌, ◌-◌, ◌*◌, ◌/◌, ◌%◌, ◌≤◌, ◌<◌}
+use Prim.Native.Nat.{ℕ, min, suc, ◌+◌, ◌-◌, ◌*◌, ◌/◌, ◌%◌, ◌≤◌, ◌<◌}
 use native.Mathlib.Nat.{le-div_iff_mul-le, div-lt_iff_lt-mul, lt-div-mul-add, mod-lt, mul-zero}
-use native.Mathlib.Numerals.{add-one}
 use native.Mathlib.Omega.{arith}
 use mathlib.Core.Path.{◌≡◌, refl, sym, ◌∙◌}
 use mathlib.Core.Logic.{◌↔◌}
-use mathlib.Core.Bool.{Bool, true, false, not, ◌&&◌, ◌||◌, beq}
+use mathlib.Core.Bool.{Bool, true, false, not, ◌&&◌, ◌||◌}
 use mathlib.Core.List.{List, [], ◌∷◌, ◌++◌}
 use lib.Dec.{eqb, leb, ltb, lit<}
 use lib.ListN.{length, take, length-take, length-drop}
@@ -14,14 +13,15 @@ use lib.Seq.{take-add, take_all}
 use borrow.Author.Tests.{ltb-true, leb-true, eqb-true, ltb-false, lt-leb, le-leb, le-ltb, eq-eqb}
 use Rattle.std.specs.Prelude.{if◌then◌else◌}
 use Rattle.lent.specs.Bytes.{byte_at, is_set}
-use Rattle.lent.proofs.Choice.{if_second, or_left, or_right, differ}
+use Rattle.std.proofs.lemmas.Bool.{or_parts}
+use Rattle.lent.proofs.Choice.{if_second, differ}
 use Rattle.mctp.specs.Setup.{first_eid, last_eid, least_unit, most_unit, setup_refusal, setup_number}
 use Rattle.mctp.specs.Header.{bit, same, header_bytes, fields, read_header, read_says, header_numbers, too_short, too_long, wrong_version, not_ours, wrong_direction}
 use Rattle.mctp.specs.Cut.{packets, payload, packet}
 use Rattle.mctp.specs.Gather.{is_cut, join_refusal}
 use Rattle.mctp.specs.declared.Header.{Header}
 use Rattle.mctp.specs.declared.Route.{Route}
-use Rattle.mctp.specs.declared.Read.TheVariants.{Refused, Packet}
+use Rattle.std.specs.Prelude.{Ok, Err}
 
 -- ---- setup
 
@@ -51,23 +51,14 @@ set_up_so eid unit e =
     let a = if_second (ltb eid first_eid || ltb last_eid eid) (λ q. absurd (omega (arith, q))) e in
     let b = if_second (ltb unit least_unit || ltb most_unit unit) (λ q. absurd (omega (arith, q))) a.1 in
     record {
-      eid_least = ltb-false eid first_eid (or_left (ltb eid first_eid) (ltb last_eid eid) a.0);
-      eid_most = ltb-false last_eid eid (or_right (ltb eid first_eid) (ltb last_eid eid) a.0);
-      unit_least = ltb-false unit least_unit (or_left (ltb unit least_unit) (ltb most_unit unit) b.0);
-      unit_most = ltb-false most_unit unit (or_right (ltb unit least_unit) (ltb most_unit unit) b.0);
+      eid_least = ltb-false eid first_eid (or_parts (ltb eid first_eid) (ltb last_eid eid) a.0).0;
+      eid_most = ltb-false last_eid eid (or_parts (ltb eid first_eid) (ltb last_eid eid) a.0).1;
+      unit_least = ltb-false unit least_unit (or_parts (ltb unit least_unit) (ltb most_unit unit) b.0).0;
+      unit_most = ltb-false most_unit unit (or_parts (ltb unit least_unit) (ltb most_unit unit) b.0).1;
     }
 
 pub first_so : SetUpSo first_eid least_unit
 first_so = record { eid_least = omega arith; eid_most = omega arith; unit_least = omega arith; unit_most = omega arith }
-
--- ---- bits
-
--- the code's test on two bools
-pub same_beq : (a b : Bool) → same a b ≡ beq a b
-same_beq true true = refl
-same_beq true false = refl
-same_beq false true = refl
-same_beq false false = refl
 
 -- ---- how many packets
 
@@ -127,14 +118,6 @@ one_packet unit route message some fits =
     last_packet unit (length message) 0 (omega arith) inside ∙ le-leb (length message) (unit * 0 + unit) (rw mul-zero (omega arith)) in
     rw (last, mul-zero, take_all unit message fits) refl
 
-abbrev pub payloads : ℕ → List ℕ → ℕ → List ℕ
-payloads unit message zero = []
-payloads unit message (suc k) = payloads unit message k ++ payload unit message k
-
-pub payloads_join : (unit : ℕ) (message : List ℕ) (k : ℕ) → payloads unit message k ≡ take (unit * k) message
-payloads_join unit message zero = rw mul-zero
-payloads_join unit message (suc k) = rw (payloads_join unit message k, payload_next unit message k, add-one)
-
 -- ---- how each is read
 
 -- byte 3 of a header taken apart
@@ -159,6 +142,10 @@ pub same_self : (b : Bool) → same b b ≡ true
 same_self true = refl
 same_self false = refl
 
+pub not_same_false : (b : Bool) → not (same b false) ≡ b
+not_same_false true = refl
+not_same_false false = refl
+
 -- the header of packet k, as a receiver reads it
 abbrev pub header_of : ℕ → Route → List ℕ → ℕ → Header
 header_of unit route message k =
@@ -173,7 +160,7 @@ header_of unit route message k =
 -- four header bytes, of which byte 3 is made of these bits, and a payload of 1 to `unit` bytes
 read_bytes : (destination source unit : ℕ) (som eom to : Bool) (sequence tag : ℕ) (p : List ℕ) → 0 < length p → length p ≤ unit
     → read_header destination unit to (header_bytes destination source som eom sequence to tag ++ p)
-    ≡ Packet (record { source = source; som = som; eom = eom; sequence = sequence % 4; tag = tag % 8 })
+    ≡ Ok (record { source = source; som = som; eom = eom; sequence = sequence % 4; tag = tag % 8 })
 unfolding read_header
 read_bytes d s unit som eom to sequence tag p some fits =
     let e = bits (bit som 1) (bit eom 1) (sequence % 4) (bit to 1) (tag % 8) (bit_below som) (bit_below eom) (mod-lt sequence (lit< tt)) (bit_below to) (mod-lt tag (lit< tt)) in
@@ -181,7 +168,7 @@ read_bytes d s unit som eom to sequence tag p some fits =
     rw (bit_times som 128, bit_times eom 64, bit_times to 8, le-ltb n 5 (omega arith), le-ltb (unit + 4) n (omega arith), eq-eqb d d refl, e.0, e.1, e.2, e.3, e.4, bit_set som, bit_set eom, bit_set to, same_self to)
 
 pub read_of_cut : (unit : ℕ) (route : Route) (message : List ℕ) (k : ℕ) → 0 < unit → unit * k < length message
-    → read_header route.destination unit route.to (packet unit route message k) ≡ Packet (header_of unit route message k)
+    → read_header route.destination unit route.to (packet unit route message k) ≡ Ok (header_of unit route message k)
 unfolding packet
 read_of_cut unit route message k pos inside =
     let n = payload_length unit message k in
@@ -189,10 +176,10 @@ read_of_cut unit route message k pos inside =
     (payload unit message k) (omega arith) (omega arith)
 
 -- a packet that is read has a header and 1 to `unit` payload bytes
-pub not_read : {A : Type 0} {n : ℕ} {h : Header} → Refused n ≡ Packet h → A
+pub not_read : {A : Type 0} {n : ℕ} {h : Header} → Err n ≡ Ok h → A
 not_read e = differ (cc e)
 
-pub packet_sized : (eid unit : ℕ) (to : Bool) (packet : List ℕ) {h : Header} → read_header eid unit to packet ≡ Packet h → (5 ≤ length packet) × (length packet ≤ unit + 4)
+pub packet_sized : (eid unit : ℕ) (to : Bool) (packet : List ℕ) {h : Header} → read_header eid unit to packet ≡ Ok h → (5 ≤ length packet) × (length packet ≤ unit + 4)
 unfolding read_header
 packet_sized eid unit to packet e =
     let a = if_second (ltb (length packet) 5) not_read e in
@@ -223,7 +210,7 @@ header_numbers_lem eid unit to p =
     by (ltb (length p) 5) (ltb (unit + 4) (length p)) (not (eqb (byte_at p 0 % 16) 1)) (not (eqb (byte_at p 1) eid)) (not (same (is_set (byte_at p 3) 3) to))
   where
     by : (a b c d e : Bool)
-        → read_says (if a then Refused too_short else if b then Refused too_long else if c then Refused wrong_version else if d then Refused not_ours else if e then Refused wrong_direction else Packet (fields p))
+        → read_says (if a then Err too_short else if b then Err too_long else if c then Err wrong_version else if d then Err not_ours else if e then Err wrong_direction else Ok (fields p))
         ≡ (if a then (10, []) else if b then (11, []) else if c then (12, []) else if d then (13, []) else if e then (14, [])
         else (0, byte_at p 2 ∷ bit (is_set (byte_at p 3) 7) 1 ∷ bit (is_set (byte_at p 3) 6) 1 ∷ byte_at p 3 / 16 % 4 ∷ byte_at p 3 % 8 ∷ []))
     by true b c d e = refl

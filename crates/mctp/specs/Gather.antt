@@ -4,8 +4,7 @@
 use Rattle.std.specs.Prelude.{ℕ, ◌+◌, ◌%◌, Bool, not, ◌&&◌, List, [], ◌∷◌, ◌++◌, eqb, ltb, length, if◌then◌else◌}
 use Rattle.mctp.specs.Header.{read_header, payload_of}
 use Rattle.mctp.specs.declared.Header.{Header}
-use Rattle.mctp.specs.declared.Read.{Read}
-use Rattle.mctp.specs.declared.Read.TheVariants.{Refused, Packet}
+use Rattle.std.specs.Prelude.{Result, Ok, Err}
 
 -- ---- the answer numbers
 
@@ -69,12 +68,12 @@ later unit limit a header payload =
     then refused (join_refusal unit limit a.sequence (length a.bytes) header (length payload))
     else joined header a.bytes payload
 
-abbrev pub gather_read : ℕ → ℕ → Gathered → List ℕ → Read → Gathered
-gather_read unit limit g payload (Refused n) = refused n
-gather_read unit limit nothing payload (Packet h) = if h.som then first unit h payload else refused no_assembly
-gather_read unit limit (refused n) payload (Packet h) = if h.som then first unit h payload else refused no_assembly
-gather_read unit limit (more a) payload (Packet h) = if h.som then first unit h payload else later unit limit a h payload
-gather_read unit limit (whole m) payload (Packet h) = if h.som then first unit h payload else refused no_assembly
+abbrev pub gather_read : ℕ → ℕ → Gathered → List ℕ → Result Header ℕ → Gathered
+gather_read unit limit g payload (Err n) = refused n
+gather_read unit limit nothing payload (Ok h) = if h.som then first unit h payload else refused no_assembly
+gather_read unit limit (refused n) payload (Ok h) = if h.som then first unit h payload else refused no_assembly
+gather_read unit limit (more a) payload (Ok h) = if h.som then first unit h payload else later unit limit a h payload
+gather_read unit limit (whole m) payload (Ok h) = if h.som then first unit h payload else refused no_assembly
 
 -- the packets of a list, one after the other, at the endpoint `eid`, with TO as `to` and messages of at most `limit` bytes
 unfoldable pub gather : ℕ → ℕ → ℕ → Bool → Gathered → List (List ℕ) → Gathered

@@ -5,8 +5,7 @@
 use Rattle.std.specs.Prelude.{ℕ, ◌+◌, ◌*◌, ◌/◌, ◌%◌, Bool, true, false, not, List, [], ◌∷◌, eqb, ltb, length, drop, if◌then◌else◌}
 use Rattle.lent.specs.Bytes.{byte_at, is_set}
 use Rattle.mctp.specs.declared.Header.{Header}
-use Rattle.mctp.specs.declared.Read.{Read}
-use Rattle.mctp.specs.declared.Read.TheVariants.{Refused, Packet}
+use Rattle.std.specs.Prelude.{Result, Ok, Err}
 
 -- ---- the answer numbers of the first table of "Receiving"
 
@@ -46,19 +45,19 @@ fields packet =
     }
 
 -- a packet for the endpoint `eid`, with payloads of at most `unit` bytes and TO as `to`: refused by number, or its fields
-unfoldable pub read_header : ℕ → ℕ → Bool → List ℕ → Read
+unfoldable pub read_header : ℕ → ℕ → Bool → List ℕ → Result Header ℕ
 read_header eid unit to packet =
-    if ltb (length packet) 5 then Refused too_short
-    else if ltb (unit + 4) (length packet) then Refused too_long
-    else if not (eqb (byte_at packet 0 % 16) 1) then Refused wrong_version
-    else if not (eqb (byte_at packet 1) eid) then Refused not_ours
-    else if not (same (is_set (byte_at packet 3) 3) to) then Refused wrong_direction
-    else Packet (fields packet)
+    if ltb (length packet) 5 then Err too_short
+    else if ltb (unit + 4) (length packet) then Err too_long
+    else if not (eqb (byte_at packet 0 % 16) 1) then Err wrong_version
+    else if not (eqb (byte_at packet 1) eid) then Err not_ours
+    else if not (same (is_set (byte_at packet 3) 3) to) then Err wrong_direction
+    else Ok (fields packet)
 
 -- document 01's number for what reading a header answers, and the values beside it: behind 0, read, the fields
-abbrev pub read_says : Read → ℕ × List ℕ
-read_says (Refused n) = (n, [])
-read_says (Packet h) = (0, h.source ∷ bit h.som 1 ∷ bit h.eom 1 ∷ h.sequence ∷ h.tag ∷ [])
+abbrev pub read_says : Result Header ℕ → ℕ × List ℕ
+read_says (Err n) = (n, [])
+read_says (Ok h) = (0, h.source ∷ bit h.som 1 ∷ bit h.eom 1 ∷ h.sequence ∷ h.tag ∷ [])
 
 -- the first table of "Receiving" in numbers, n being the packet's whole length: 10 n below 5; 11 n above `unit` + 4; 12 version not 1; 13
 -- destination is not ours; 14 TO is another. Else the fields: source, SOM, EOM, sequence, tag.

@@ -1,7 +1,8 @@
 // A buffer that a record asks for, and the words of what a call has written there.
 ghost use Rattle.std.specs.Prelude.{◌≡◌, ◌≤◌, length};
 
-use crate::line::{answered_with, hex, say};
+use crate::line::{hex, number};
+use std::io;
 
 // The longest buffer that a record can ask for, and what each of its bytes is before the call.
 const LONGEST_BUFFER: usize = 65535;
@@ -15,23 +16,26 @@ pub(crate) fn blank_buffer() -> [u8; LONGEST_BUFFER]
     [BLANK; LONGEST_BUFFER]
 }
 
-// Whether the bytes from a place on are as they were before the call.
-pub(crate) fn blank_words(rt: &impl Print, on: bool, buffer: &[u8], from: usize) -> bool {
-    let mut i = from;
-    while i < buffer.len() {
-        if buffer[i] != BLANK {
-            return say(rt, on, b" touched");
-        }
-        i += 1;
+// Whether these bytes are as they were before the call.
+fn blank_words(rt: &impl Print, bytes: &[u8]) -> io::Result<()> {
+    if bytes.iter().all(|byte| *byte == BLANK) {
+        print!(rt; " stays")
+    } else {
+        print!(rt; " touched")
     }
-    say(rt, on, b" stays")
+}
+
+// The answer beside which nothing was written, and whether the bytes are as they were.
+pub(crate) fn unwritten_words(rt: &impl Print, answer: u8, buffer: &[u8]) -> io::Result<()> {
+    number(rt, answer)?;
+    blank_words(rt, buffer)
 }
 
 // The answer beside which n bytes were written: `ANSWER LENGTH BYTES`, and whether the bytes behind them stay.
-pub(crate) fn written_words(rt: &impl Print, answer: u8, buffer: &[u8], n: usize) -> bool
+pub(crate) fn written_words(rt: &impl Print, answer: u8, buffer: &[u8], n: usize) -> io::Result<()>
     requires { n ≤ length buffer.now }
 {
-    let on = answered_with(rt, answer, n as u64);
-    let on = hex(rt, say(rt, on, b" "), &buffer[..n]);
-    blank_words(rt, on, buffer, n)
+    print!(rt; "{answer} {n} ")?;
+    hex(rt, &buffer[..n])?;
+    blank_words(rt, &buffer[n..])
 }

@@ -1,185 +1,102 @@
-// The whole state of the endpoint and of the requester in words, and a check of each store's lent bytes.
-use crate::line::{byte, field, hex, hex_number, say};
+// The whole state of the endpoint and of the requester in words, and a check of each store's lent bytes. The words are functions and no `Display`:
+// the types are of other crates, and these words are this program's alone.
+use crate::line::hex;
 use controller::{Awaiting, Requester};
-use machine::{Endpoint, Held, Phase, Request, Response, Slot, Taking};
+use machine::{Endpoint, Phase, Reply, Request, Response, Slot, Taking};
+use std::io;
 
-fn flag(b: bool) -> u64 {
-    if b { 1 } else { 0 }
-}
-
-// A word, and two numbers behind it.
-fn two(rt: &impl Print, on: bool, word: &[u8], a: u64, b: u64) -> bool {
-    field(rt, field(rt, on, word, a), b":", b)
-}
-
-// A word, and three numbers behind it.
-fn three(rt: &impl Print, on: bool, word: &[u8], a: u64, b: u64, c: u64) -> bool {
-    field(rt, two(rt, on, word, a, b), b":", c)
-}
-
-// The EID, and the largest payload.
-fn wire_words(rt: &impl Print, on: bool, eid: u8, unit: usize) -> bool {
-    field(
-        rt,
-        field(rt, on, b"eid=", byte(eid)),
-        b" unit=",
-        unit as u64,
-    )
-}
-
-// The check of a store's lent bytes.
-fn check_words(rt: &impl Print, on: bool, name: &[u8], store: &[u8]) -> bool {
-    hex_number(rt, say(rt, on, name), crc32c::crc32c(store) as u64, 8)
-}
-
-fn taking_words(rt: &impl Print, on: bool, taking: Taking) -> bool {
+fn taking_words(rt: &impl Print, taking: Taking) -> io::Result<()> {
     match taking {
-        Taking::Untaken => say(rt, on, b":untaken"),
-        Taking::Taken(can) => if can {
-            say(rt, on, b":can")
-        } else {
-            say(rt, on, b":taken")
-        },
+        Taking::Untaken => print!(rt; ":untaken"),
+        Taking::Taken(true) => print!(rt; ":can"),
+        Taking::Taken(false) => print!(rt; ":taken"),
     }
 }
 
 // A command: from whom, under which tag, its kind and length, whether it was taken, and then whether it can still be stopped.
-fn request_words(rt: &impl Print, on: bool, r: Request) -> bool {
-    let on = three(
-        rt,
-        on,
-        b"process:",
-        byte(r.source),
-        byte(r.tag),
-        byte(r.kind),
-    );
-    let taking = r.taking;
-    taking_words(rt, field(rt, on, b":", r.length as u64), taking)
+fn request_words(rt: &impl Print, r: Request) -> io::Result<()> {
+    print!(rt; "process:{}:{}:{}:{}", r.source, r.tag, r.kind, r.length)?;
+    taking_words(rt, r.taking)
 }
 
-// A response under the name of its slot's state.
-fn response_words(rt: &impl Print, on: bool, name: &[u8], r: Response) -> bool {
-    three(
-        rt,
-        on,
-        name,
-        byte(r.requester),
-        byte(r.tag),
-        r.length as u64,
-    )
+// A response, behind the name of its slot's state.
+fn response_words(rt: &impl Print, name: &str, r: Response) -> io::Result<()> {
+    print!(rt; "{name}:{}:{}:{}", r.requester, r.tag, r.length)
 }
 
-fn held_words(rt: &impl Print, on: bool, held: Held) -> bool {
-    match held {
-        Held::NoResponse => say(rt, on, b"idle"),
-        Held::Last(response) => response_words(rt, on, b"idle:", response),
-    }
-}
-
-fn phase_words(rt: &impl Print, on: bool, phase: Phase) -> bool {
+fn phase_words(rt: &impl Print, phase: Phase) -> io::Result<()> {
     match phase {
-        Phase::Idle(held) => held_words(rt, on, held),
-        Phase::Receive(a) => {
-            let on = three(
-                rt,
-                on,
-                b"receive:",
-                byte(a.source),
-                byte(a.tag),
-                byte(a.sequence),
-            );
-            field(rt, on, b":", a.length as u64)
-        }
-        Phase::Process(request) => request_words(rt, on, request),
-        Phase::Answered(response) => response_words(rt, on, b"answered:", response),
+        Phase::Idle(None) => print!(rt; "idle"),
+        Phase::Idle(Some(response)) => response_words(rt, "idle", response),
+        Phase::Receive(a) => print!(rt;
+            "receive:{}:{}:{}:{}",
+            a.source, a.tag, a.sequence, a.length
+        ),
+        Phase::Process(request) => request_words(rt, request),
+        Phase::Answered(response) => response_words(rt, "answered", response),
         Phase::Transmit(outgoing) => {
-            let response = outgoing.response;
-            let on = response_words(rt, on, b"transmit:", response);
-            field(rt, on, b":", outgoing.sent as u64)
+            response_words(rt, "transmit", outgoing.response)?;
+            print!(rt; ":{}", outgoing.sent)
         }
     }
 }
 
-fn slot_words(rt: &impl Print, on: bool, name: &[u8], slot: Slot) -> bool {
-    let ticket = slot.ticket;
-    let on = field(rt, on, name, ticket.0 as u64);
-    let on = field(rt, on, b",", flag(slot.paused));
-    let on = field(rt, on, b",", flag(slot.busy));
-    let phase = slot.phase;
-    phase_words(rt, say(rt, on, b","), phase)
+fn slot_words(rt: &impl Print, name: &str, slot: Slot) -> io::Result<()> {
+    print!(rt;
+        " {name}={},{},{},",
+        slot.ticket.0,
+        u8::from(slot.paused),
+        u8::from(slot.busy)
+    )?;
+    phase_words(rt, slot.phase)
 }
 
 // The control reply that waits: for whom, under which message tag, its bytes.
-fn reply_words(rt: &impl Print, on: bool, waits: bool, to: u8, tag: u8, reply: &[u8]) -> bool {
-    if !waits {
-        return say(rt, on, b" reply=-");
-    }
-    let on = two(rt, on, b" reply=", byte(to), byte(tag));
-    hex(rt, say(rt, on, b":"), reply)
+fn reply_words(rt: &impl Print, reply: Option<Reply>) -> io::Result<()> {
+    let Some(reply) = reply else {
+        return print!(rt; " reply=-");
+    };
+    print!(rt; " reply={}:{}:", reply.to, reply.tag)?;
+    hex(rt, &reply.message)
 }
 
-fn number_words(
-    rt: &impl Print,
-    on: bool,
-    eid: u8,
-    unit: u8,
-    flags: u16,
-    turn: usize,
-    last_control: bool,
-) -> bool {
-    let on = wire_words(rt, on, eid, unit as usize);
-    let on = hex_number(rt, say(rt, on, b" flags="), flags as u64, 4);
-    let on = field(rt, on, b" turn=", turn as u64);
-    field(rt, on, b" last=", flag(last_control))
+// The numbers of the endpoint's state, and whether the last packet was control.
+fn number_words(rt: &impl Print, endpoint: &Endpoint) -> io::Result<()> {
+    print!(rt; "eid={} unit={}", endpoint.eid, endpoint.unit)?;
+    print!(rt;
+        " flags={:04x} turn={} last={}",
+        endpoint.flags,
+        endpoint.turn,
+        u8::from(endpoint.last_control)
+    )
 }
 
 // The endpoint's state, and what is lent beside it.
 pub(crate) fn look(
     rt: &impl Print,
-    on: bool,
-    endpoint: Endpoint,
+    endpoint: &Endpoint,
     store0: &[u8],
     store1: &[u8],
-) -> bool {
-    let on = number_words(
-        rt,
-        on,
-        endpoint.eid,
-        endpoint.unit,
-        endpoint.flags,
-        endpoint.turn,
-        endpoint.last_control,
-    );
-    let reply = endpoint.reply;
-    let on = reply_words(
-        rt,
-        on,
-        endpoint.reply_waits,
-        endpoint.reply_to,
-        endpoint.reply_tag,
-        &reply,
-    );
-    let on = slot_words(rt, on, b" slot0=", endpoint.slots[0]);
-    let on = slot_words(rt, on, b" slot1=", endpoint.slots[1]);
-    check_words(
-        rt,
-        check_words(rt, on, b" check0=", store0),
-        b" check1=",
-        store1,
+) -> io::Result<()> {
+    number_words(rt, endpoint)?;
+    reply_words(rt, endpoint.reply)?;
+    slot_words(rt, "slot0", endpoint.slots[0])?;
+    slot_words(rt, "slot1", endpoint.slots[1])?;
+    print!(rt;
+        " check0={:08x} check1={:08x}",
+        crc32c::crc32c(store0),
+        crc32c::crc32c(store1)
     )
 }
 
 // What is awaited, from whom and under which tag, and what was gathered of it.
-fn awaiting_words(rt: &impl Print, on: bool, awaiting: Awaiting) -> bool {
+fn awaiting_words(rt: &impl Print, awaiting: Awaiting) -> io::Result<()> {
     match awaiting {
-        Awaiting::Nothing => say(rt, on, b" awaits=- assembly=-"),
-        Awaiting::Awaited(key) => {
-            let on = two(rt, on, b" awaits=", byte(key.source), byte(key.tag));
-            say(rt, on, b" assembly=-")
-        }
+        Awaiting::Nothing => print!(rt; " awaits=- assembly=-"),
+        Awaiting::Awaited(key) => print!(rt; " awaits={}:{} assembly=-", key.source, key.tag),
         Awaiting::Gathering(a) => {
-            let on = two(rt, on, b" awaits=", byte(a.source), byte(a.tag));
-            two(rt, on, b" assembly=", byte(a.sequence), a.length as u64)
+            print!(rt; " awaits={}:{}", a.source, a.tag)?;
+            print!(rt; " assembly={}:{}", a.sequence, a.length)
         }
     }
 }
@@ -187,15 +104,10 @@ fn awaiting_words(rt: &impl Print, on: bool, awaiting: Awaiting) -> bool {
 // The requester's state, and what is lent beside it.
 pub(crate) fn requester_look(
     rt: &impl Print,
-    on: bool,
-    requester: Requester,
+    requester: &Requester,
     store: &[u8],
-) -> bool {
-    let awaiting = requester.awaiting;
-    let on = awaiting_words(
-        rt,
-        wire_words(rt, on, requester.eid, requester.unit),
-        awaiting,
-    );
-    check_words(rt, on, b" check=", store)
+) -> io::Result<()> {
+    print!(rt; "eid={} unit={}", requester.eid, requester.unit)?;
+    awaiting_words(rt, requester.awaiting)?;
+    print!(rt; " check={:08x}", crc32c::crc32c(store))
 }

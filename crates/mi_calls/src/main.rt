@@ -8,21 +8,21 @@ mod line;
 mod look;
 mod record;
 mod requester_record;
+mod stop;
 mod tags;
 mod words;
 
-ghost use Rattle.std.specs.Prelude.{◌≡◌, true, false, ◌+◌, ◌≤◌, length};
-ghost use Rattle.mi_calls.specs.Session.{Kept};
+ghost use Rattle.std.specs.Prelude.{◌≡◌, ◌≤◌, length, IfOk};
 ghost use Rattle.mi_calls.specs.Sizes.{least_size};
 
-use controller::Requester;
-use line::say;
-use machine::Endpoint;
+use controller::ValidRequester;
+use machine::ValidEndpoint;
 use machine::sizes::{LEAST_UNIT, STORE_SIZE};
 use record::called;
 use requester_record::requester_called;
 use std::io::Read;
-use tags::{REQUESTER_STORE, STORES, is_no_mark, is_record, is_requesters};
+use stop::{Stop, tell};
+use tags::Tag;
 use words::half;
 
 // Tag and length.
@@ -34,246 +34,175 @@ const MEMORY: usize = 4300;
 // The space of a record's bytes.
 const SPACE: usize = 65536;
 
-// Where a declaration has its mark, behind slot and ticket.
-const MARK: usize = 8;
-
 // The EID of the endpoint and of the requester at the start.
 const EID: u8 = 8;
 
-// What was read: how many bytes, and whether a read failed.
-#[derive(Drop)]
-struct Got {
-    count: usize,
-    failed: bool,
-}
-
-// Reads once, behind the first bytes.
-fn read_behind(stdin: &mut impl Read, buf: &mut [u8], at: usize) -> Got
-    requires { at ≤ length buf.old }
-    ensures { at + result.count ≤ length buf.new }
-{
-    let t = &mut buf[at..];
-    let Ok(count) = stdin.read(t) else {
-        return Got {
-            count: 0,
-            failed: true,
-        };
-    };
-    Got {
-        count,
-        failed: false,
-    }
-}
-
-// Reads until the bytes are all there, the input ends, or a read fails.
-fn filled(stdin: &mut impl Read, buf: &mut [u8]) -> Got
-    ensures { result.count ≤ length buf.new }
+// Reads until the bytes are all there or the input ends, and gives how many there are. The place is counted by hand, since the program has to do what
+// it did: std's `read_exact` doesn't say how many bytes there were before the end, and tries a read again that a signal interrupts.
+fn filled(stdin: &mut impl Read, buf: &mut [u8]) -> Result<usize, Stop>
+    ensures { IfOk result (λ n. n ≤ length buf.new) }
 {
     let mut at = 0;
     while at < buf.len() {
-        let one = read_behind(stdin, buf, at);
-        if one.count == 0 {
-            return Got {
-                count: at,
-                failed: one.failed,
-            };
+        let n = stdin.read(&mut buf[at..]).map_err(|_| Stop::NotRead)?;
+        if n == 0 {
+            return Ok(at);
         }
-        at += one.count;
+        at += n;
     }
-    Got {
-        count: at,
-        failed: false,
-    }
+    Ok(at)
 }
 
-// What ends the program where a record is wanted: a read that failed is told, and a record that is none prints `bad`.
-fn broken(rt: &(impl Print + Eprint), failed: bool) {
-    if failed {
-        let _ = eprintln!(rt; "mi_calls: standard input can not be read");
-    } else {
-        say(rt, true, b"bad\n");
-    }
-}
-
-// The end of a line; a line that could not be written is told.
-fn line_end(rt: &(impl Print + Eprint), on: bool) -> bool {
-    let whole = say(rt, on, b"\n");
-    if !whole {
-        let _ = eprintln!(rt; "mi_calls: standard output can not be written; lines are missing");
-    }
-    whole
-}
-
-// Both ends, how much of each store's memory is lent, the endpoint's two and the requester's, and whether there is more to do.
-#[derive(Clone, Copy)]
-struct Session {
-    endpoint: Endpoint,
-    requester: Requester,
-    length0: usize,
-    length1: usize,
-    length: usize,
-    on: bool,
-}
-
-// So much of each store is lent from here on. More than its memory is `bad`.
-fn lent_anew(
-    rt: &(impl Print + Eprint),
-    session: Session,
-    length0: usize,
-    length1: usize,
-    length: usize,
-) -> Session
-    requires { Kept session }
-    ensures { Kept result }
-{
-    if length0 > MEMORY || length1 > MEMORY || length > MEMORY {
-        broken(rt, false);
-        return Session {
-            on: false,
-            ..session
-        };
-    }
-    Session {
-        length0,
-        length1,
-        length,
-        on: line_end(rt, say(rt, true, b"0")),
-        ..session
-    }
-}
-
-// The next record, whose bytes are at the front of the space; or there is none.
-#[derive(Drop)]
-struct Next {
-    tag: u8,
-    size: usize,
-    on: bool,
-}
-
-fn none() -> Next
-    ensures { result.on ≡ false }
-{
-    Next {
-        tag: 0,
-        size: 0,
-        on: false,
-    }
-}
-
-// Reads a record. The end of the input between records is silent.
-fn next_record(rt: &(impl Print + Eprint), stdin: &mut impl Read, space: &mut [u8]) -> Next
-    requires { 65536 ≤ length space.old }
-    ensures { result.on ≡ true → (least_size result.tag ≤ result.size) × (result.size ≤ 65535) }
+// Reads a record's tag and length.
+fn next_head(stdin: &mut impl Read) -> Result<(Tag, usize), Stop>
+    ensures { IfOk result (λ head. (least_size head.0 ≤ head.1) × (head.1 ≤ 65535)) }
 {
     let mut head = [0u8; HEAD_SIZE];
-    let got = filled(stdin, &mut head);
-    let tag = head[0];
-    let size = half(&head, 1);
-    if got.count == 0 && !got.failed {
-        return none();
+    let n = filled(stdin, &mut head)?;
+    if n == 0 {
+        return Err(Stop::InputEnds);
     }
-    if got.count < HEAD_SIZE || !is_record(tag, size) {
-        broken(rt, got.failed);
-        return none();
+    if n < HEAD_SIZE {
+        return Err(Stop::NoRecord);
     }
-    let more = filled(stdin, &mut space[..size]);
-    if more.count < size {
-        broken(rt, more.failed);
-        return none();
-    }
-    if is_no_mark(tag, space[MARK]) {
-        broken(rt, false);
-        return none();
-    }
-    Next {
-        tag,
-        size,
-        on: true,
+    let tag = Tag::try_from(head[0])?;
+    let size = usize::from(half(&head, 1));
+    if tag.is_record(size) {
+        Ok((tag, size))
+    } else {
+        Err(Stop::NoRecord)
     }
 }
 
-// Reads one record, does what it says, and writes its line.
-fn turn(
-    rt: &(impl Print + Eprint),
+// Reads a record: its tag, and its bytes.
+fn next_record<'a>(
     stdin: &mut impl Read,
-    session: Session,
-    store0: &mut [u8],
-    store1: &mut [u8],
-    store: &mut [u8],
-    space: &mut [u8],
-) -> Session
-    requires kept { Kept session }
-    requires sizes { (length store0.old ≡ 4300) × (length store1.old ≡ 4300) × (length store.old ≡ 4300) × (65536 ≤ length space.old) }
-    ensures { Kept result }
+    space: &'a mut [u8; SPACE],
+) -> Result<(Tag, &'a [u8]), Stop>
+    ensures { IfOk result (λ got. least_size got.0 ≤ length got.1.now) }
 {
-    let next = next_record(rt, stdin, space);
-    let tag = next.tag;
-    let size = next.size;
-    if !next.on {
-        return Session {
-            on: false,
-            ..session
+    let (tag, size) = next_head(stdin)?;
+    let body = &mut space[..size];
+    let n = filled(stdin, body)?;
+    if n < size || tag.is_no_mark(body) {
+        return Err(Stop::NoRecord);
+    }
+    Ok((tag, body))
+}
+
+// How much of a store's memory is lent, from its front.
+#[derive(Clone, Copy)]
+struct Lent {
+    length: usize,
+    ghost in_memory: { length ≤ 4300 },
+}
+
+impl Lent {
+    // So much of a store. A record that asks for more than there is memory is none.
+    fn new(n: u16) -> Result<Self, Stop> {
+        let length = usize::from(n);
+        if length > MEMORY {
+            return Err(Stop::NoRecord);
+        }
+        Ok(Self { length })
+    }
+
+    // A whole message's room.
+    fn store() -> Self {
+        Self { length: STORE_SIZE }
+    }
+
+    // The part of the memory that is lent.
+    fn part(self, memory: &mut [u8; MEMORY]) -> &mut [u8] {
+        &mut memory[..self.length]
+    }
+}
+
+// Both ends and the memory of their stores, the endpoint's two and the requester's, and how much of each is lent. The lengths stand beside the
+// memories: a struct of both would need the invariant of `Lent`, and no part of a field beside an invariant can be lent through a `&mut Session`.
+#[derive(Drop)]
+struct Session {
+    endpoint: ValidEndpoint,
+    requester: ValidRequester,
+    store0: [u8; MEMORY],
+    store1: [u8; MEMORY],
+    store: [u8; MEMORY],
+    lent0: Lent,
+    lent1: Lent,
+    lent: Lent,
+}
+
+impl Session {
+    // Does what a record says, and writes the words of its line.
+    fn record(&mut self, rt: &impl Print, tag: Tag, body: &[u8]) -> Result<(), Stop>
+        requires { least_size tag ≤ length body.now }
+    {
+        let written = match tag {
+            Tag::EndpointStores => {
+                self.lent0 = Lent::new(half(body, 0))?;
+                self.lent1 = Lent::new(half(body, 2))?;
+                print!(rt; "0")
+            }
+            Tag::Endpoint(call) => {
+                let (lent0, lent1) = (self.lent0, self.lent1);
+                called(
+                    rt,
+                    &mut self.endpoint,
+                    lent0.part(&mut self.store0),
+                    lent1.part(&mut self.store1),
+                    call,
+                    body,
+                )
+            }
+            Tag::RequesterStore => {
+                self.lent = Lent::new(half(body, 0))?;
+                print!(rt; "0")
+            }
+            Tag::Requester(call) => {
+                let lent = self.lent;
+                requester_called(
+                    rt,
+                    &mut self.requester,
+                    lent.part(&mut self.store),
+                    call,
+                    body,
+                )
+            }
         };
+        written.map_err(|_| Stop::NotWritten)
     }
-    let body = &space[..size];
-    if tag == STORES {
-        return lent_anew(rt, session, half(body, 0), half(body, 2), session.length);
-    }
-    if tag == REQUESTER_STORE {
-        return lent_anew(rt, session, session.length0, session.length1, half(body, 0));
-    }
-    if is_requesters(tag) {
-        let n = session.length;
-        let step = requester_called(rt, session.requester, &mut store[..n], tag, body);
-        let requester = step.requester;
-        return Session {
-            requester,
-            on: line_end(rt, step.on),
-            ..session
-        };
-    }
-    let n0 = session.length0;
-    let n1 = session.length1;
-    let lent0 = &mut store0[..n0];
-    let lent1 = &mut store1[..n1];
-    let step = called(rt, session.endpoint, lent0, lent1, tag, body);
-    let endpoint = step.endpoint;
-    Session {
-        endpoint,
-        on: line_end(rt, step.on),
-        ..session
+
+    // Reads one record, does what it says, and writes its line.
+    fn turn(
+        &mut self,
+        rt: &impl Print,
+        stdin: &mut impl Read,
+        space: &mut [u8; SPACE],
+    ) -> Result<(), Stop> {
+        let (tag, body) = next_record(stdin, space)?;
+        self.record(rt, tag, body)?;
+        println!(rt).map_err(|_| Stop::NotWritten)
     }
 }
 
 fn main(rt: HostRuntime) {
     let mut stdin = rt.stdin();
-    let mut store0 = [0u8; MEMORY];
-    let mut store1 = [0u8; MEMORY];
-    let mut store = [0u8; MEMORY];
     let mut space = [0u8; SPACE];
     let started = endpoint::setup(EID, LEAST_UNIT);
-    let endpoint = started.endpoint;
     let begun = requester::setup(EID, LEAST_UNIT);
-    let requester = begun.requester;
     let mut session = Session {
-        endpoint,
-        requester,
-        length0: STORE_SIZE,
-        length1: STORE_SIZE,
-        length: STORE_SIZE,
-        on: true,
+        endpoint: started.endpoint,
+        requester: begun.requester,
+        store0: [0u8; MEMORY],
+        store1: [0u8; MEMORY],
+        store: [0u8; MEMORY],
+        lent0: Lent::store(),
+        lent1: Lent::store(),
+        lent: Lent::store(),
     };
-    let mut turns = u64::MAX;
-    while turns > 0 && session.on {
-        session = turn(
-            &rt,
-            &mut stdin,
-            session,
-            &mut store0,
-            &mut store1,
-            &mut store,
-            &mut space,
-        );
-        turns -= 1;
+    for _ in 0..u64::MAX {
+        if let Err(stop) = session.turn(&rt, &mut stdin, &mut space) {
+            return tell(&rt, stop);
+        }
     }
 }

@@ -1,42 +1,41 @@
 // What a record of the requester does: the call that it names, and the words of its line.
-ghost use Rattle.std.specs.Prelude.{◌≡◌, ℕ, ◌≤◌, length};
-ghost use Rattle.controller.specs.State.{Valid};
-ghost use Rattle.controller.specs.declared.SendAnswer.{SendAnswer};
-ghost use Rattle.mi_calls.specs.Sizes.{least_size};
+ghost use Rattle.std.specs.Prelude.{◌≤◌, length, IfOk};
+ghost use Rattle.mi_calls.specs.Sizes.{least_of_requester};
 
-use crate::buffer::{blank_buffer, blank_words, written_words};
-use crate::line::{answered, answered_with};
+use crate::buffer::{blank_buffer, unwritten_words, written_words};
+use crate::line::number;
 use crate::look::requester_look;
-use crate::tags::{
-    REQUESTER_AWAIT, REQUESTER_CUT, REQUESTER_PRIMITIVE, REQUESTER_RECEIVE, REQUESTER_SETUP,
-};
+use crate::tags::RequesterCall;
 use crate::words::{half, unit_of, word};
-use controller::{Done, Primitive, ReceiveAnswer, Requester, SendAnswer, answers};
+use controller::{Gathered, Primitive, ValidRequester};
+use refusals::{Refusal, answer_number};
+use std::io;
 
-// What a call leaves, and whether its words were written whole.
-#[derive(Drop)]
-pub struct RequesterStep {
-    pub requester: Requester,
-    pub on: bool,
+// The answer of a setup, whose requester takes the place of the one before.
+fn setup_step(rt: &impl Print, requester: &mut ValidRequester, body: &[u8]) -> io::Result<()>
+    requires { 1 ≤ length body.now }
+{
+    let done = requester::setup(body[0], unit_of(body));
+    *requester = done.requester;
+    number(rt, answer_number(done.answer))
 }
 
 // `0 LENGTH BYTES` and what became of the bytes behind them, or the refusal's number.
-fn send_words(rt: &impl Print, buffer: &[u8], answer: SendAnswer) -> bool
-    requires { (n : ℕ) → answer ≡ SendAnswer.Written n → n ≤ length buffer.now }
+fn send_words(rt: &impl Print, buffer: &[u8], answer: Result<usize, Refusal>) -> io::Result<()>
+    requires { IfOk answer (λ n. n ≤ length buffer.now) }
 {
     match answer {
-        SendAnswer::Refused(n) => blank_words(rt, answered(rt, n), buffer, 0),
-        SendAnswer::Written(n) => written_words(rt, answers::DONE, buffer, n),
+        Ok(n) => written_words(rt, 0, buffer, n),
+        Err(refusal) => unwritten_words(rt, refusal.number(), buffer),
     }
 }
 
-// A command is cut: destination, tag, the buffer's length, the message.
-fn cut_words(rt: &impl Print, requester: Requester, body: &[u8]) -> bool
-    requires { Valid requester × (4 ≤ length body.now) }
+// Cuts a command: destination, tag, the buffer's length, the message.
+fn cut_step(rt: &impl Print, requester: &ValidRequester, body: &[u8]) -> io::Result<()>
+    requires { 4 ≤ length body.now }
 {
     let mut space = blank_buffer();
-    let n = half(body, 2);
-    let buffer = &mut space[..n];
+    let buffer = &mut space[..usize::from(half(body, 2))];
     let answer = requester::cut(requester, body[0], body[1], &body[4..], buffer);
     send_words(rt, buffer, answer)
 }
@@ -46,98 +45,55 @@ fn primitive_of(body: &[u8]) -> Primitive
     requires { 12 ≤ length body.now }
 {
     Primitive {
-        slot: word(body, 2),
+        slot: word(body, 2) as usize,
         opcode: body[6],
         tag: body[7],
-        cpsp: half(body, 8) as u16,
+        cpsp: half(body, 8),
     }
 }
 
-// A control primitive is built: destination, message tag, the primitive, the buffer's length.
-fn primitive_words(rt: &impl Print, requester: Requester, body: &[u8]) -> bool
-    requires { Valid requester × (12 ≤ length body.now) }
+// Builds a control primitive: destination, message tag, the primitive, the buffer's length.
+fn primitive_step(rt: &impl Print, requester: &ValidRequester, body: &[u8]) -> io::Result<()>
+    requires { 12 ≤ length body.now }
 {
     let mut space = blank_buffer();
-    let n = half(body, 10);
-    let buffer = &mut space[..n];
+    let buffer = &mut space[..usize::from(half(body, 10))];
     let answer = requester::primitive(requester, body[0], body[1], primitive_of(body), buffer);
     send_words(rt, buffer, answer)
 }
 
 // `1 LENGTH`, `2 LENGTH`, or another answer's number.
-fn receive_words(rt: &impl Print, answer: ReceiveAnswer) -> bool {
+fn receive_words(rt: &impl Print, answer: Result<Gathered, Refusal>) -> io::Result<()> {
     match answer {
-        ReceiveAnswer::Refused(n) => answered(rt, n),
-        ReceiveAnswer::More => answered(rt, answers::MORE_TO_COME),
-        ReceiveAnswer::Response(n) => answered_with(rt, answers::COMMAND_COMPLETE, n as u64),
-        ReceiveAnswer::Control(n) => answered_with(rt, answers::CONTROL_DONE, n as u64),
-    }
-}
-
-fn receive_step(
-    rt: &impl Print,
-    requester: Requester,
-    store: &mut [u8],
-    packet: &[u8],
-) -> RequesterStep
-    requires { Valid requester }
-    ensures { Valid result.requester }
-{
-    let done = requester::receive(requester, store, packet);
-    let answer = done.answer;
-    let requester = done.requester;
-    RequesterStep {
-        requester,
-        on: receive_words(rt, answer),
-    }
-}
-
-// An answer by number.
-fn number_step(rt: &impl Print, done: Done) -> RequesterStep
-    requires { Valid done.requester }
-    ensures { Valid result.requester }
-{
-    let requester = done.requester;
-    RequesterStep {
-        requester,
-        on: answered(rt, done.answer),
+        Ok(Gathered::More) => number(rt, 0),
+        Ok(Gathered::Response(n)) => print!(rt; "1 {n}"),
+        Ok(Gathered::Control(n)) => print!(rt; "2 {n}"),
+        Err(refusal) => number(rt, refusal.number()),
     }
 }
 
 // A call on the lent part of the store, and its words.
 pub(crate) fn requester_called(
     rt: &impl Print,
-    requester: Requester,
+    requester: &mut ValidRequester,
     store: &mut [u8],
-    tag: u8,
+    call: RequesterCall,
     body: &[u8],
-) -> RequesterStep
-    requires { Valid requester × (least_size tag ≤ length body.now) }
-    ensures { Valid result.requester }
+) -> io::Result<()>
+    requires { least_of_requester call ≤ length body.now }
 {
-    if tag == REQUESTER_SETUP {
-        return number_step(rt, requester::setup(body[0], unit_of(body)));
-    }
-    if tag == REQUESTER_AWAIT {
-        return number_step(rt, requester::await_response(requester, body[0], body[1]));
-    }
-    if tag == REQUESTER_CUT {
-        return RequesterStep {
-            requester,
-            on: cut_words(rt, requester, body),
-        };
-    }
-    if tag == REQUESTER_PRIMITIVE {
-        return RequesterStep {
-            requester,
-            on: primitive_words(rt, requester, body),
-        };
-    }
-    if tag == REQUESTER_RECEIVE {
-        return receive_step(rt, requester, store, body);
-    }
-    RequesterStep {
-        requester,
-        on: requester_look(rt, true, requester, store),
+    match call {
+        RequesterCall::Setup => setup_step(rt, requester, body),
+        RequesterCall::Await => {
+            let answer = requester::await_response(requester, body[0], body[1]);
+            number(rt, answer_number(answer))
+        }
+        RequesterCall::Cut => cut_step(rt, requester, body),
+        RequesterCall::Primitive => primitive_step(rt, requester, body),
+        RequesterCall::Receive => {
+            let answer = requester::receive(requester, store, body);
+            receive_words(rt, answer)
+        }
+        RequesterCall::Look => requester_look(rt, &requester.state, store),
     }
 }

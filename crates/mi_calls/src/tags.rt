@@ -1,125 +1,150 @@
-// The tags of records, and how many bytes a record of each has behind its tag and length.
-ghost use Rattle.std.specs.Prelude.{◌≡◌, true, ◌≤◌};
-ghost use Rattle.mi_calls.specs.Sizes.{least_size};
+// What a record asks for, by its tag, and how many bytes it has behind its tag and length.
+ghost use Rattle.std.specs.Prelude.{◌≡◌, true, ◌≤◌, length};
+ghost use Rattle.mi_calls.specs.Sizes.{least_of_endpoint, least_of_requester, least_size};
+ghost use Rattle.mi_calls.specs.Tags.{Decodes};
 
-// ---- The endpoint.
-pub const SETUP: u8 = 16;
+#[derive(Clone, Copy)]
+pub enum EndpointCall {
+    Setup,
+    Receive,
+    Take,
+    Read,
+    Complete,
+    Poll,
+    Timeout,
+    Reset,
+    Look,
+    Declare,
+}
 
-pub const STORES: u8 = 17;
+#[derive(Clone, Copy)]
+pub enum RequesterCall {
+    Setup,
+    Await,
+    Cut,
+    Primitive,
+    Receive,
+    Look,
+}
 
-pub const RECEIVE: u8 = 18;
+// A call of one end, or how much of its stores is lent from here on.
+#[derive(Clone, Copy)]
+pub enum Tag {
+    EndpointStores,
+    Endpoint(EndpointCall),
+    RequesterStore,
+    Requester(RequesterCall),
+}
 
-pub const TAKE: u8 = 19;
+// A tag that no record has.
+#[derive(Clone, Copy)]
+pub struct UnknownTag(pub u8);
 
-pub const READ: u8 = 20;
+impl TryFrom<u8> for Tag {
+    type Error = UnknownTag;
 
-pub const COMPLETE: u8 = 21;
+    ghost try_from_gives = { Decodes };
 
-pub const POLL: u8 = 22;
-
-pub const TIMEOUT: u8 = 23;
-
-pub const RESET: u8 = 24;
-
-pub const LOOK: u8 = 25;
-
-pub const DECLARE: u8 = 48;
-
-// ---- The requester.
-pub const REQUESTER_SETUP: u8 = 32;
-
-pub const REQUESTER_STORE: u8 = 33;
-
-pub const REQUESTER_AWAIT: u8 = 34;
-
-pub const REQUESTER_CUT: u8 = 35;
-
-pub const REQUESTER_PRIMITIVE: u8 = 36;
-
-pub const REQUESTER_RECEIVE: u8 = 37;
-
-pub const REQUESTER_LOOK: u8 = 38;
-
-// A record of the requester.
-pub(crate) fn is_requesters(tag: u8) -> bool {
-    tag >= REQUESTER_SETUP && tag <= REQUESTER_LOOK
+    #[tactic(auto, unfolding(crate::specs::Tags::is_tag))]
+    fn try_from(tag: u8) -> Result<Self, UnknownTag> {
+        match tag {
+            16 => Ok(Tag::Endpoint(EndpointCall::Setup)),
+            17 => Ok(Tag::EndpointStores),
+            18 => Ok(Tag::Endpoint(EndpointCall::Receive)),
+            19 => Ok(Tag::Endpoint(EndpointCall::Take)),
+            20 => Ok(Tag::Endpoint(EndpointCall::Read)),
+            21 => Ok(Tag::Endpoint(EndpointCall::Complete)),
+            22 => Ok(Tag::Endpoint(EndpointCall::Poll)),
+            23 => Ok(Tag::Endpoint(EndpointCall::Timeout)),
+            24 => Ok(Tag::Endpoint(EndpointCall::Reset)),
+            25 => Ok(Tag::Endpoint(EndpointCall::Look)),
+            32 => Ok(Tag::Requester(RequesterCall::Setup)),
+            33 => Ok(Tag::RequesterStore),
+            34 => Ok(Tag::Requester(RequesterCall::Await)),
+            35 => Ok(Tag::Requester(RequesterCall::Cut)),
+            36 => Ok(Tag::Requester(RequesterCall::Primitive)),
+            37 => Ok(Tag::Requester(RequesterCall::Receive)),
+            38 => Ok(Tag::Requester(RequesterCall::Look)),
+            48 => Ok(Tag::Endpoint(EndpointCall::Declare)),
+            _ => Err(UnknownTag(tag)),
+        }
+    }
 }
 
 // The longest record's bytes, without tag and length.
 const LONGEST: usize = 8192;
 
-// The fewest bytes that a record of this tag has.
-fn least_size(tag: u8) -> usize
-    ensures { result ≡ least_size tag }
+// A setup has the EID alone, or the unit's two bytes behind it.
+fn is_setup(n: usize) -> bool
+    ensures { result ≡ true → 1 ≤ n }
 {
-    match tag {
-        SETUP => 1,
-        STORES => 4,
-        RECEIVE => 0,
-        TAKE => 4,
-        READ => 4,
-        COMPLETE => 8,
-        POLL => 2,
-        TIMEOUT => 4,
-        RESET => 0,
-        LOOK => 0,
-        REQUESTER_SETUP => 1,
-        REQUESTER_STORE => 2,
-        REQUESTER_AWAIT => 2,
-        REQUESTER_CUT => 4,
-        REQUESTER_PRIMITIVE => 12,
-        REQUESTER_RECEIVE => 0,
-        REQUESTER_LOOK => 0,
-        DECLARE => 9,
-        _ => 1,
+    n == 1 || n == 3
+}
+
+impl EndpointCall {
+    // A record of the endpoint with this call may have so many bytes.
+    fn is_record(self, n: usize) -> bool
+        ensures { result ≡ true → least_of_endpoint self ≤ n }
+    {
+        match self {
+            EndpointCall::Setup => is_setup(n),
+            EndpointCall::Receive => n <= LONGEST,
+            EndpointCall::Take | EndpointCall::Read | EndpointCall::Timeout => n == 4,
+            EndpointCall::Complete => n >= 8 && n <= LONGEST,
+            EndpointCall::Poll => n == 2,
+            EndpointCall::Reset | EndpointCall::Look => n == 0,
+            EndpointCall::Declare => n == 9,
+        }
     }
 }
 
-// The most; for an unknown tag fewer than the fewest.
-fn most_size(tag: u8) -> usize {
-    match tag {
-        SETUP => 3,
-        STORES => 4,
-        RECEIVE => LONGEST,
-        TAKE => 4,
-        READ => 4,
-        COMPLETE => LONGEST,
-        POLL => 2,
-        TIMEOUT => 4,
-        REQUESTER_SETUP => 3,
-        REQUESTER_STORE => 2,
-        REQUESTER_AWAIT => 2,
-        REQUESTER_CUT => LONGEST,
-        REQUESTER_PRIMITIVE => 12,
-        REQUESTER_RECEIVE => LONGEST,
-        DECLARE => 9,
-        _ => 0,
+impl RequesterCall {
+    // A record of the requester with this call may have so many bytes.
+    fn is_record(self, n: usize) -> bool
+        ensures { result ≡ true → least_of_requester self ≤ n }
+    {
+        match self {
+            RequesterCall::Setup => is_setup(n),
+            RequesterCall::Await => n == 2,
+            RequesterCall::Cut => n >= 4 && n <= LONGEST,
+            RequesterCall::Primitive => n == 12,
+            RequesterCall::Receive => n <= LONGEST,
+            RequesterCall::Look => n == 0,
+        }
     }
 }
 
-// A length between the two.
-fn is_sized(tag: u8, n: usize) -> bool
-    ensures { result ≡ true → least_size tag ≤ n }
+// What a declaration says: that the command can still be stopped, 1, or that it no longer can, 0. None: another number.
+pub(crate) fn mark(body: &[u8]) -> Option<bool>
+    requires { 9 ≤ length body.now }
 {
-    least_size(tag) <= n && n <= most_size(tag)
-}
-
-// A setup with one byte of its unit: the unit has two bytes, or none.
-fn is_half_setup(tag: u8, n: usize) -> bool {
-    n == 2 && (tag == SETUP || tag == REQUESTER_SETUP)
-}
-
-// A record with this tag may have this length.
-pub(crate) fn is_record(tag: u8, n: usize) -> bool
-    ensures { result ≡ true → least_size tag ≤ n }
-{
-    if is_half_setup(tag, n) {
-        return false;
+    match body[8] {
+        0 => Some(false),
+        1 => Some(true),
+        _ => None,
     }
-    is_sized(tag, n)
 }
 
-// A declaration that is neither 1, the command can still be stopped, nor 0, it no longer can.
-pub(crate) fn is_no_mark(tag: u8, mark: u8) -> bool {
-    tag == DECLARE && mark > 1
+impl Tag {
+    // A record with this tag may have so many bytes.
+    pub(crate) fn is_record(self, n: usize) -> bool
+        ensures { result ≡ true → least_size self ≤ n }
+    {
+        match self {
+            Tag::EndpointStores => n == 4,
+            Tag::Endpoint(call) => call.is_record(n),
+            Tag::RequesterStore => n == 2,
+            Tag::Requester(call) => call.is_record(n),
+        }
+    }
+
+    // With this tag these bytes are a declaration that says neither.
+    pub(crate) fn is_no_mark(self, body: &[u8]) -> bool
+        requires { least_size self ≤ length body.now }
+    {
+        match self {
+            Tag::Endpoint(EndpointCall::Declare) => mark(body).is_none(),
+            _ => false,
+        }
+    }
 }

@@ -1,34 +1,27 @@
-// Numbers of a record, low byte first.
-ghost use Rattle.std.specs.Prelude.{◌+◌, ◌≤◌, ◌<◌, length};
+// Numbers of a record, low byte first. `half` and `word` stay two functions: their types are two, and a generic one would need a trait over
+// `from_le_bytes` that says no more than these two lines.
+ghost use Rattle.std.specs.Prelude.{◌+◌, ◌≤◌, length};
 
 use machine::sizes::LEAST_UNIT;
 
-fn wide(b: u8) -> usize
-    ensures { result < 256 }
+// The number of two bytes.
+pub(crate) fn half(bytes: &[u8], at: usize) -> u16
+    requires { at + 2 ≤ length bytes.now }
 {
-    b as usize
+    u16::from_le_bytes([bytes[at], bytes[at + 1]])
 }
 
-// The number of two bytes.
-pub(crate) fn half(bytes: &[u8], at: usize) -> usize
-    requires { at + 2 ≤ length bytes.now }
-    ensures { result < 65536 }
+// The number of four bytes.
+pub(crate) fn word(bytes: &[u8], at: usize) -> u32
+    requires { at + 4 ≤ length bytes.now }
 {
-    wide(bytes[at]) + wide(bytes[at + 1]) * 256
+    u32::from_le_bytes([bytes[at], bytes[at + 1], bytes[at + 2], bytes[at + 3]])
 }
 
 // The unit of a setup, behind the EID; without one it is 64.
 pub(crate) fn unit_of(setup: &[u8]) -> usize {
-    if setup.len() < 3 {
-        return LEAST_UNIT;
+    match setup {
+        [_, low, high, ..] => usize::from(u16::from_le_bytes([*low, *high])),
+        _ => LEAST_UNIT,
     }
-    half(setup, 1)
-}
-
-// The number of four bytes.
-pub(crate) fn word(bytes: &[u8], at: usize) -> usize
-    requires { at + 4 ≤ length bytes.now }
-    ensures { result < 4294967296 }
-{
-    half(bytes, at) + half(bytes, at + 2) * 65536
 }

@@ -10,12 +10,13 @@ use lib.ListN.{length, length-append}
 use lib.Pow.{shr-shr}
 use lib.Seq.{take-append_seam, get_or-append_seam, get_or-append-add}
 use borrow.Author.Tests.{le-ltb, eq-eqb}
+use Rattle.std.specs.Prelude.{Result, Ok, Err}
 use Rattle.crc32c.specs.Crc32c.{crc32c}
 use Rattle.crc32c.proofs.Same.{crc32c_lt}
 use Rattle.nvme_mi.specs.Check.{four_bytes, word_at, with_check, check_right}
-use Rattle.nvme_mi.specs.Response.{response_header, response, fault_body, success_body}
+use Rattle.nvme_mi.specs.Response.{response, fault_body}
 use Rattle.nvme_mi.specs.declared.Fault.{Fault}
-use Rattle.nvme_mi.specs.declared.Fault.TheVariants.{NoFault, Parameter, Failure}
+use Rattle.nvme_mi.specs.declared.Fault.TheVariants.{InvalidOpcode, Parameter, InvalidSize}
 
 pub length_with_check : (s : List ℕ) → length (with_check s) ≡ length s + 4
 unfolding with_check
@@ -38,14 +39,8 @@ check_of_own s =
     let e : 4 ≤ length s + 4 = omega arith in
     rw (length_with_check s, le-ltb _ _ e, m, word_four s (crc32c s) (crc32c_lt s), take-append_seam s (four_bytes (crc32c s))) (eq-eqb (crc32c s) (crc32c s) refl)
 
-pub response_right : (nmimt csi : ℕ) (body : List ℕ) → check_right (response nmimt csi body) ≡ true
-unfolding response
-response_right nmimt csi body = check_of_own (response_header nmimt csi ++ body)
-
-pub fault_body_length : (f : Fault) → length (fault_body f) ≡ 4
-fault_body_length NoFault = refl
-fault_body_length (Parameter byte bit) = refl
-fault_body_length (Failure status) = refl
-
-pub success_body_length : (tag cpsr : ℕ) → length (success_body tag cpsr) ≡ 4
-success_body_length tag cpsr = refl
+pub fault_body_length : (tested : Result (Unit {0}) Fault) → length (fault_body tested) ≡ 4
+fault_body_length (Ok none) = refl
+fault_body_length (Err (Parameter byte bit)) = refl
+fault_body_length (Err InvalidOpcode) = refl
+fault_body_length (Err InvalidSize) = refl

@@ -1,11 +1,11 @@
 -- Responses: 84h, then ROR 1 with the request's NMIMT and CSI, then two zeros; the body from byte 4 (status) on; the check.
 -- Assumes nothing.
-use Rattle.std.specs.Prelude.{ℕ, ◌+◌, ◌*◌, ◌%◌, List, [], ◌∷◌, ◌++◌}
+use Rattle.std.specs.Prelude.{Result, Ok, Err, ℕ, ◌+◌, ◌*◌, ◌%◌, List, [], ◌∷◌, ◌++◌}
 use Rattle.lent.specs.Bytes.{low_high}
-use Rattle.nvme_mi.specs.Message.{message_type, success, invalid_parameter}
+use Rattle.nvme_mi.specs.Message.{message_type, success, invalid_opcode, invalid_parameter, invalid_size}
 use Rattle.nvme_mi.specs.Check.{with_check}
 use Rattle.nvme_mi.specs.declared.Fault.{Fault}
-use Rattle.nvme_mi.specs.declared.Fault.TheVariants.{NoFault, Parameter, Failure}
+use Rattle.nvme_mi.specs.declared.Fault.TheVariants.{InvalidOpcode, Parameter, InvalidSize}
 
 -- bit 7 of byte 1 is ROR, bits 6:3 are NMIMT, bit 0 is CSI
 abbrev pub response_header : ℕ → ℕ → List ℕ
@@ -17,10 +17,11 @@ unfolding with_check
 response nmimt csi body = with_check (response_header nmimt csi ++ body)
 
 -- Status 04h is followed by the bit number, then the byte number in two bytes; other errors by three zeros.
-abbrev pub fault_body : Fault → List ℕ
-fault_body NoFault = success ∷ 0 ∷ 0 ∷ 0 ∷ []
-fault_body (Parameter byte bit) = invalid_parameter ∷ bit ∷ low_high byte
-fault_body (Failure status) = status ∷ 0 ∷ 0 ∷ 0 ∷ []
+abbrev pub fault_body : Result (Unit {0}) Fault → List ℕ
+fault_body (Ok none) = success ∷ 0 ∷ 0 ∷ 0 ∷ []
+fault_body (Err (Parameter byte bit)) = invalid_parameter ∷ bit ∷ low_high byte
+fault_body (Err InvalidOpcode) = invalid_opcode ∷ 0 ∷ 0 ∷ 0 ∷ []
+fault_body (Err InvalidSize) = invalid_size ∷ 0 ∷ 0 ∷ 0 ∷ []
 
 -- a control primitive's success reply: 00h, TAG, CPSR
 abbrev pub success_body : ℕ → ℕ → List ℕ

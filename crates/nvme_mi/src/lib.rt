@@ -1,8 +1,8 @@
 // NVMe-MI messages: the header's fields, the integrity check, the tests of a whole message, responses.
 #![tactic(auto)]
 
-ghost use Rattle.std.specs.Prelude.{◌≡◌, [], ◌∷◌, ◌++◌, ◌+◌, ◌≤◌, ◌<◌, length, take, drop};
-ghost use Rattle.nvme_mi.specs.Message.{message_header, is_known, shortest, command_fault, control_fault};
+ghost use Rattle.std.specs.Prelude.{◌≡◌, ◌++◌, ◌+◌, ◌≤◌, length, take, drop, IfOk};
+ghost use Rattle.nvme_mi.specs.Message.{message_header, kind_number, NamesKind, shortest, opcode_number, NamesOpcode, command_fault, control_fault, fault_in};
 ghost use Rattle.nvme_mi.specs.Check.{check_right, word_at, with_check};
 ghost use Rattle.nvme_mi.specs.Response.{response, fault_body, success_body};
 
@@ -16,12 +16,38 @@ pub struct MessageHeader {
     pub ciap: bool,
 }
 
-// What is wrong with a whole message: a parameter, by its byte and bit, or another failure, by its status.
-#[derive(Clone, Copy)]
+// What is wrong with a whole message: an opcode that is none, a parameter, by its byte and bit, or a size.
+#[derive(Clone, Copy, Debug, PartialEq, Eq)]
 pub enum Fault {
-    NoFault,
+    InvalidOpcode,
     Parameter(u8, u8),
-    Failure(u8),
+    InvalidSize,
+}
+
+// The kinds of command by NMIMT. Other numbers name none.
+#[derive(Clone, Copy, Debug, PartialEq, Eq)]
+pub enum Kind {
+    Mi = 1,
+    Admin = 2,
+    Pcie = 4,
+}
+
+// Control primitives by opcode. There is none above Replay.
+#[derive(Clone, Copy, Debug, PartialEq, Eq)]
+pub enum Opcode {
+    Pause = 0,
+    Resume = 1,
+    Abort = 2,
+    GetState = 3,
+    Replay = 4,
+}
+
+// Status codes of a response.
+enum Status {
+    Success = 0x00,
+    InvalidOpcode = 0x03,
+    InvalidParameter = 0x04,
+    InvalidSize = 0x05,
 }
 
 // Byte 0 of a message: IC 1, message type 4.
@@ -38,41 +64,8 @@ pub const SMALLEST: usize = HEADER_SIZE + CHECK_SIZE;
 // A control request or reply, header to check.
 pub const CONTROL_SIZE: usize = 12;
 
-// NMIMT.
+// NMIMT of control primitives and their replies. It is a number and no `Kind`: as the kind of a command it is unknown (`command_fault`).
 pub const CONTROL: u8 = 0;
-
-const MI_COMMAND: u8 = 1;
-
-const ADMIN_COMMAND: u8 = 2;
-
-const PCIE_COMMAND: u8 = 4;
-
-// The shortest command of each kind, with its check.
-const SHORTEST_MI: usize = 20;
-
-const SHORTEST_ADMIN: usize = 72;
-
-const SHORTEST_PCIE: usize = 24;
-
-// Opcodes of control primitives. There is none above Replay.
-pub const PAUSE: u8 = 0;
-
-pub const RESUME: u8 = 1;
-
-pub const ABORT: u8 = 2;
-
-pub const GET_STATE: u8 = 3;
-
-pub const REPLAY: u8 = 4;
-
-// Status codes of a response.
-const SUCCESS: u8 = 0x00;
-
-const INVALID_OPCODE: u8 = 0x03;
-
-const INVALID_PARAMETER: u8 = 0x04;
-
-const INVALID_SIZE: u8 = 0x05;
 
 // Reads the header of a message.
 pub fn read_message_header(message: &[u8]) -> MessageHeader
@@ -90,70 +83,83 @@ pub fn read_message_header(message: &[u8]) -> MessageHeader
     }
 }
 
-// The kinds of command: MI, Admin, PCIe.
-fn is_known(nmimt: u8) -> bool
-    ensures { result ≡ is_known nmimt }
-{
-    nmimt == MI_COMMAND || nmimt == ADMIN_COMMAND || nmimt == PCIE_COMMAND
+impl TryFrom<u8> for Kind {
+    type Error = Fault;
+
+    ghost try_from_gives = { NamesKind };
+
+    fn try_from(nmimt: u8) -> Result<Kind, Fault> {
+        match nmimt {
+            1 => Ok(Kind::Mi),
+            2 => Ok(Kind::Admin),
+            4 => Ok(Kind::Pcie),
+            _ => Err(Fault::Parameter(1, 3)),
+        }
+    }
 }
 
-// The bytes of the shortest command of a known kind, with its check.
-fn shortest_size(nmimt: u8) -> usize
-    ensures { result ≡ shortest nmimt }
-{
-    if nmimt == MI_COMMAND {
-        return SHORTEST_MI;
+impl Kind {
+    // The bytes of the shortest command of this kind, with its check.
+    fn shortest(self) -> usize
+        ensures { result ≡ shortest (kind_number self) }
+    {
+        match self {
+            Kind::Mi => 20,
+            Kind::Admin => 72,
+            Kind::Pcie => 24,
+        }
     }
-    if nmimt == ADMIN_COMMAND {
-        return SHORTEST_ADMIN;
+}
+
+impl TryFrom<u8> for Opcode {
+    type Error = Fault;
+
+    ghost try_from_gives = { NamesOpcode };
+
+    fn try_from(opcode: u8) -> Result<Opcode, Fault> {
+        match opcode {
+            0 => Ok(Opcode::Pause),
+            1 => Ok(Opcode::Resume),
+            2 => Ok(Opcode::Abort),
+            3 => Ok(Opcode::GetState),
+            4 => Ok(Opcode::Replay),
+            _ => Err(Fault::InvalidOpcode),
+        }
     }
-    SHORTEST_PCIE
 }
 
 // The tests of a command of n bytes, at its entry into Process.
-pub fn command_fault(header: MessageHeader, n: usize) -> Fault
+#[tactic(auto, unfolding(crate::specs::Message::command_fault))]
+pub fn check_command(header: MessageHeader, n: usize) -> Result<(), Fault>
     ensures { result ≡ command_fault header n }
 {
-    if !is_known(header.nmimt) {
-        return Fault::Parameter(1, 3);
-    }
+    let kind = Kind::try_from(header.nmimt)?;
     if header.meb {
-        return Fault::Parameter(2, 0);
+        return Err(Fault::Parameter(2, 0));
     }
-    if n < shortest_size(header.nmimt) {
-        return Fault::Failure(INVALID_SIZE);
+    if n < kind.shortest() {
+        return Err(Fault::InvalidSize);
     }
-    Fault::NoFault
+    Ok(())
 }
 
 // The tests of a control primitive with this opcode, and whether its CPSP is 0: a Replay takes no other.
 #[tactic(auto, unfolding(crate::specs::Message::control_fault))]
-pub fn control_fault(header: MessageHeader, opcode: u8, no_parameter: bool) -> Fault
-    ensures { result ≡ control_fault header opcode no_parameter }
+pub fn check_control(header: MessageHeader, opcode: u8, no_parameter: bool) -> Result<Opcode, Fault>
+    ensures fault { fault_in result ≡ control_fault header opcode no_parameter }
+    ensures opcode { IfOk result (λ o. opcode_number o ≡ opcode) }
 {
     if header.meb {
-        return Fault::Parameter(2, 0);
+        return Err(Fault::Parameter(2, 0));
     }
     if header.ciap {
-        return Fault::Parameter(2, 1);
+        return Err(Fault::Parameter(2, 1));
     }
-    if opcode > REPLAY {
-        return Fault::Failure(INVALID_OPCODE);
+    let opcode = Opcode::try_from(opcode)?;
+    if opcode == Opcode::Replay && !no_parameter {
+        return Err(Fault::Parameter(6, 0));
     }
-    if no_parameter {
-        return Fault::NoFault;
-    }
-    if opcode == REPLAY {
-        return Fault::Parameter(6, 0);
-    }
-    Fault::NoFault
-}
-
-// A byte as a wider number.
-fn wide(b: u8) -> u32
-    ensures { (result ≡ b) × (result < 256) }
-{
-    b as u32
+    Ok(opcode)
 }
 
 // The four bytes at n as a number, low byte first.
@@ -161,10 +167,11 @@ fn word_at(s: &[u8], n: usize) -> u32
     requires { n + 4 ≤ length s.now }
     ensures { result ≡ word_at s.now n }
 {
-    wide(s[n]) + wide(s[n + 1]) * 256 + wide(s[n + 2]) * 65536 + wide(s[n + 3]) * 16777216
+    u32::from_le_bytes([s[n], s[n + 1], s[n + 2], s[n + 3]])
 }
 
 // The last four bytes of a message are the check of all before them.
+#[tactic(auto, unfolding(crate::specs::Check::check_right))]
 pub fn check_right(message: &[u8]) -> bool
     ensures { result ≡ check_right message.now }
 {
@@ -176,15 +183,13 @@ pub fn check_right(message: &[u8]) -> bool
 }
 
 // Writes the check of the first n bytes of a store behind them, low byte first.
+#[tactic(auto, unfolding(crate::specs::Check::with_check))]
 pub fn write_check(store: &mut [u8], n: usize)
     requires { n + 4 ≤ length store.old }
     ensures { store.new ≡ with_check (take n store.old) ++ drop (n + 4) store.old }
 {
     let check = crc32c::crc32c(&store[..n]);
-    store[n] = (check % 256) as u8;
-    store[n + 1] = (check / 256 % 256) as u8;
-    store[n + 2] = (check / 65536 % 256) as u8;
-    store[n + 3] = (check / 16777216 % 256) as u8;
+    lent::put(store, n, &check.to_le_bytes());
 }
 
 // Writes a response with this body to the front of a store: header, body, check. Bytes behind it stay.
@@ -200,14 +205,15 @@ pub fn write_response(store: &mut [u8], nmimt: u8, csi: u8, body: &[u8])
     write_check(store, body.len() + HEADER_SIZE);
 }
 
-// The four body bytes of an error response.
-pub fn fault_body(fault: Fault) -> [u8; 4]
-    ensures { result ≡ fault_body fault }
+// The four body bytes of the response to what was tested: an error's, or success.
+pub fn fault_body(tested: Result<(), Fault>) -> [u8; 4]
+    ensures { result ≡ fault_body tested }
 {
-    match fault {
-        Fault::NoFault => [SUCCESS, 0, 0, 0],
-        Fault::Parameter(byte, bit) => [INVALID_PARAMETER, bit, byte, 0],
-        Fault::Failure(status) => [status, 0, 0, 0],
+    match tested {
+        Ok(()) => [Status::Success as u8, 0, 0, 0],
+        Err(Fault::InvalidOpcode) => [Status::InvalidOpcode as u8, 0, 0, 0],
+        Err(Fault::Parameter(byte, bit)) => [Status::InvalidParameter as u8, bit, byte, 0],
+        Err(Fault::InvalidSize) => [Status::InvalidSize as u8, 0, 0, 0],
     }
 }
 
@@ -215,7 +221,8 @@ pub fn fault_body(fault: Fault) -> [u8; 4]
 pub fn success_body(tag: u8, cpsr: u16) -> [u8; 4]
     ensures { result ≡ success_body tag cpsr }
 {
-    [SUCCESS, tag, (cpsr % 256) as u8, (cpsr / 256) as u8]
+    let [low, high] = cpsr.to_le_bytes();
+    [Status::Success as u8, tag, low, high]
 }
 
 // A control reply of twelve bytes: NMIMT 0, the request's slot, a body of four bytes.

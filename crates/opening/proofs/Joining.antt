@@ -21,6 +21,7 @@ use Rattle.mctp.proofs.Gathering.{full}
 use Rattle.nvme_mi.specs.Check.{check_right}
 use Rattle.opening.specs.Opening.{opened, joined_in}
 use Rattle.opening.specs.Formed.{WellFormed}
+use Rattle.std.specs.Prelude.{Ok}
 use Rattle.opening.specs.declared.First.TheVariants.{Command}
 use Rattle.opening.specs.declared.Joined.{Joined}
 use Rattle.opening.specs.declared.Joined.TheVariants.{More, Whole}
@@ -32,11 +33,7 @@ holding m n store = take n m ++ drop n store
 pub holding_length : (m : List ℕ) (n : ℕ) (store : List ℕ) → n ≤ length m → n ≤ length store → length (holding m n store) ≡ length store
 holding_length m n store h k = simp (length-append, length-take, length-drop) (omega arith)
 
--- one that holds the whole message
-pub holding_all : (m store : List ℕ) → holding m (length m) store ≡ m ++ drop (length m) store
-holding_all m store = ap (λ (s : List ℕ). s ++ drop (length m) store) (take_all (length m) m (omega arith))
-
--- has it at its front
+-- a store with the whole message at its front, read back
 pub front_of : (m store : List ℕ) → take (length m) (m ++ drop (length m) store) ≡ m
 front_of m store = take_at m (drop (length m) store) (length m) refl
 
@@ -105,7 +102,7 @@ front_byte unit m j h = rw mul-zero (get_or-take unit m j 0 h)
 
 -- a command, for the endpoint; a response, for the requester
 pub opens : (unit : ℕ) (ror : Bool) (route : Route) (m : List ℕ) → 8 ≤ unit → WellFormed ror m
-    → opened unit ror (header_of unit route m 0) (payload unit m 0) ≡ Command
+    → opened unit ror (header_of unit route m 0) (payload unit m 0) ≡ Ok Command
 unfolding opened
 opens unit ror route m wide w =
     let some : unit * 0 < length m = rw mul-zero (omega (arith, w.long)) in

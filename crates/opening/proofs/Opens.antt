@@ -9,7 +9,8 @@ use lib.Dec.{eqb, ltb}
 use lib.ListN.{length}
 use borrow.Author.Tests.{ltb-false, eqb-true, not-false}
 use Rattle.lent.specs.Bytes.{byte_at}
-use Rattle.lent.proofs.Choice.{if_ind, or_right, differ}
+use Rattle.std.proofs.lemmas.Bool.{or_parts}
+use Rattle.lent.proofs.Choice.{if_ind, differ}
 use Rattle.mctp.specs.Header.{same}
 use Rattle.mctp.specs.Gather.{is_cut}
 use Rattle.mctp.specs.declared.Header.{Header}
@@ -17,19 +18,20 @@ use Rattle.nvme_mi.specs.Message.{message_type, control, message_header}
 use Rattle.nvme_mi.specs.Check.{check_right}
 use Rattle.opening.specs.Opening.{opened}
 use Rattle.opening.specs.declared.First.{First}
-use Rattle.opening.specs.declared.First.TheVariants.{Refused, Control, Command}
+use Rattle.std.specs.Prelude.{Result, Ok, Err}
+use Rattle.opening.specs.declared.First.TheVariants.{Control, Command}
 
 module _ (unit : ℕ) (ror : Bool) (h : Header) (m : List ℕ) (wide : 8 ≤ unit) where
-  abbrev Long : First → Type 0
-  Long o = (o ≡ Control → length m ≡ 12) × (o ≡ Command → 8 ≤ length m)
+  abbrev Long : Result First ℕ → Type 0
+  Long o = (o ≡ Ok Control → length m ≡ 12) × (o ≡ Ok Command → 8 ≤ length m)
 
-  no : (n : ℕ) → Long (Refused n)
+  no : (n : ℕ) → Long (Err n)
   no n = (λ q. differ (cc q), λ q. differ (cc q))
 
-  control_command : {A : Type 0} → Control ≡ Command → A
+  control_command : {A : Type 0} → ◌≡◌ {A = Result First ℕ} (Ok Control) (Ok Command) → A
   control_command q = differ (cc q)
 
-  command_control : {A : Type 0} → Command ≡ Control → A
+  command_control : {A : Type 0} → ◌≡◌ {A = Result First ℕ} (Ok Command) (Ok Control) → A
   command_control q = differ (cc q)
 
   long : is_cut unit h (length m) ≡ false → (h.eom && ltb (length m) 8) ≡ false → 8 ≤ length m
@@ -55,4 +57,4 @@ module _ (unit : ℕ) (ror : Bool) (h : Header) (m : List ℕ) (wide : 8 ≤ uni
       if_ind Long (not h.eom || not (eqb (length m) 12)) (λ _. no 18)
       (λ one.
       if_ind Long (not (check_right m)) (λ _. no 19)
-      (λ _. (λ _. eqb-true (length m) 12 (not-false (eqb (length m) 12) (or_right (not h.eom) (not (eqb (length m) 12)) one)), λ q. control_command q))))))))
+      (λ _. (λ _. eqb-true (length m) 12 (not-false (eqb (length m) 12) (or_parts (not h.eom) (not (eqb (length m) 12)) one).1), λ q. control_command q))))))))

@@ -2,67 +2,59 @@
 #![tactic(auto)]
 
 ghost use Rattle.std.specs.Prelude.{◌≡◌, ◌≤◌, length};
+ghost use Rattle.refusals.specs.Refusals.{numbered};
 ghost use Rattle.opening.specs.Opening;
 ghost use Rattle.opening.specs.Opening.{joined_in};
 
 use mctp::Header;
 use nvme_mi::{CONTROL, CONTROL_SIZE, MESSAGE_TYPE, SMALLEST};
+use refusals::Refusal;
 
-// A message's first packet: refused by number, a control message, or the first of another, which is a command or its response.
-#[derive(Clone, Copy)]
+// What a message's first packet opens: a control message, or another, which is a command or its response.
+#[derive(Clone, Copy, Debug, PartialEq, Eq)]
 pub enum First {
-    Refused(u8),
     Control,
     Command,
 }
 
-// A message's bytes so far: more to come, a wrong check, or whole.
-#[derive(Clone, Copy)]
+// A message's bytes so far: more to come, a wrong check, or whole. A wrong check is one of three ways and no `Err`: at each end it first ends the
+// assembly, and then is a refusal.
+#[derive(Clone, Copy, Debug, PartialEq, Eq)]
 pub enum Joined {
     More,
     Wrong,
     Whole,
 }
 
-// Answers to a message by its bytes. The first: byte 0 is not 84h, or ROR is the other one.
-pub const WRONG_MESSAGE: u8 = 15;
-
-pub const MESSAGE_TOO_SHORT: u8 = 17;
-
-// A control message is one packet of 12 bytes.
-pub const NOT_TWELVE: u8 = 18;
-
-pub const CHECK_WRONG: u8 = 19;
-
 // The second table of "Receiving", for messages with this ROR: 15, 16, 17, 15, 18, 19.
 #[tactic(auto, unfolding(crate::specs::Opening::opened))]
-pub fn opened(unit: usize, ror: bool, header: Header, message: &[u8]) -> First
+pub fn opened(unit: usize, ror: bool, header: Header, message: &[u8]) -> Result<First, Refusal>
     requires { (1 ≤ length message.now) × (8 ≤ unit) }
-    ensures { result ≡ Opening.opened unit ror header message.now }
+    ensures { numbered result ≡ Opening.opened unit ror header message.now }
 {
     if message[0] != MESSAGE_TYPE {
-        return First::Refused(WRONG_MESSAGE);
+        return Err(Refusal::WrongMessage);
     }
     if mctp::is_cut(unit, header, message.len()) {
-        return First::Refused(mctp::NOT_FULL);
+        return Err(Refusal::NotFull);
     }
     if header.eom && message.len() < SMALLEST {
-        return First::Refused(MESSAGE_TOO_SHORT);
+        return Err(Refusal::MessageTooShort);
     }
     let message_header = nvme_mi::read_message_header(message);
     if message_header.ror != ror {
-        return First::Refused(WRONG_MESSAGE);
+        return Err(Refusal::WrongMessage);
     }
     if message_header.nmimt != CONTROL {
-        return First::Command;
+        return Ok(First::Command);
     }
     if !header.eom || message.len() != CONTROL_SIZE {
-        return First::Refused(NOT_TWELVE);
+        return Err(Refusal::NotTwelve);
     }
     if !nvme_mi::check_right(message) {
-        return First::Refused(CHECK_WRONG);
+        return Err(Refusal::CheckWrong);
     }
-    First::Control
+    Ok(First::Control)
 }
 
 // With EOM a message is checked whole.

@@ -1,125 +1,106 @@
 // "Polling" of document 01: what goes next.
 #![tactic(auto)]
 
-ghost use Rattle.std.specs.Prelude.{◌≡◌, ◌≤◌, length};
+ghost use Rattle.std.specs.Prelude.{◌≡◌, ◌≤◌, length, IfOk, IfSome};
+ghost use Rattle.refusals.specs.Refusals.{numbered};
 ghost use Rattle.machine.specs.State.{world};
-ghost use Rattle.machine.specs.Wire.{store_size, packet_room};
+ghost use Rattle.machine.specs.Wire.{packet_room};
 ghost use Rattle.machine.specs.Poll;
 ghost use Rattle.machine.specs.Poll.{polled_to, poll_says, sending_or, begun_or, polled_by, polled};
 ghost use Rattle.machine.specs.Numbers.{poll_number};
 ghost use Rattle.machine.specs.Valid.{Valid};
+ghost use Rattle.slots.specs.Numbers.{at_number};
 
-use machine::sizes::HEADER_SIZE;
-use machine::{Endpoint, Phase, PollAnswer, PollDone, Ready, answers};
-use poll_send::{sent_command, sent_control};
-use slots::{other_slot, phase_of, wrong_stores};
+use machine::sizes::{HEADER_SIZE, Store};
+use machine::{Endpoint, Outgoing, Phase, ValidEndpoint};
+use poll_send::{send_command, send_control};
+use refusals::Refusal;
+use slots::{SlotNumber, both_stores};
 
-// Slot i's response where it is in Transmit, else the other choice.
-fn sending_or(i: usize, phase: Phase, other: Ready) -> Ready
-    ensures { result ≡ sending_or i phase other }
+// A slot in this phase, with its response where it is in Transmit.
+fn sending_in(phase: Phase, slot: SlotNumber) -> Option<(SlotNumber, Outgoing)>
+    ensures { at_number result ≡ sending_or slot.number phase None }
 {
     match phase {
-        Phase::Idle(_) => other,
-        Phase::Receive(_) => other,
-        Phase::Process(_) => other,
-        Phase::Answered(_) => other,
-        Phase::Transmit(outgoing) => Ready::From(i, outgoing),
+        Phase::Transmit(outgoing) => Some((slot, outgoing)),
+        _ => None,
     }
 }
 
-// Slot i's response where a packet of it went, else the other choice.
-fn begun_or(i: usize, phase: Phase, other: Ready) -> Ready
-    ensures { result ≡ begun_or i phase other }
+// A slot in this phase, with its response where a packet of it went.
+fn begun_in(phase: Phase, slot: SlotNumber) -> Option<(SlotNumber, Outgoing)>
+    ensures { at_number result ≡ begun_or slot.number phase None }
 {
-    match phase {
-        Phase::Idle(_) => other,
-        Phase::Receive(_) => other,
-        Phase::Process(_) => other,
-        Phase::Answered(_) => other,
-        Phase::Transmit(outgoing) => if outgoing.sent > 0 {
-            Ready::From(i, outgoing)
-        } else {
-            other
-        },
-    }
+    sending_in(phase, slot).filter(|found| found.1.sent > 0)
 }
 
-// The slot that goes next: the one that has begun, else the one whose turn it is, else the other.
+// The slot that goes next: the one that has begun, else the one whose turn it is, else the other. `turn` is a number in the state's definition, so that
+// its bound is a clause here.
 #[tactic(auto, unfolding(machine::specs::Poll::chosen))]
-fn chosen(endpoint: Endpoint) -> Ready
-    requires { endpoint.turn ≤ 1 }
-    ensures { result ≡ Poll.chosen endpoint }
+fn chosen(endpoint: &Endpoint) -> Option<(SlotNumber, Outgoing)>
+    requires { endpoint.now.turn ≤ 1 }
+    ensures { at_number result ≡ Poll.chosen endpoint.now }
 {
-    let turn = endpoint.turn;
-    let other = other_slot(turn);
-    let last = sending_or(other, phase_of(endpoint, other), Ready::Nothing);
-    let by_turn = sending_or(turn, phase_of(endpoint, turn), last);
-    let begun = begun_or(1, phase_of(endpoint, 1), by_turn);
-    begun_or(0, phase_of(endpoint, 0), begun)
+    let slots = &endpoint.slots;
+    let turn = SlotNumber {
+        number: endpoint.turn,
+    };
+    let other = turn.other();
+    begun_in(slots[0].phase, SlotNumber { number: 0 })
+        .or(begun_in(slots[1].phase, SlotNumber { number: 1 }))
+        .or(sending_in(slots[turn.number].phase, turn))
+        .or(sending_in(slots[other.number].phase, other))
 }
 
 // A command packet is ready only while neither slot is paused.
 #[tactic(auto, unfolding(machine::specs::Poll::ready))]
-fn ready(endpoint: Endpoint) -> Ready
-    requires { endpoint.turn ≤ 1 }
-    ensures { result ≡ Poll.ready endpoint }
+fn ready(endpoint: &Endpoint) -> Option<(SlotNumber, Outgoing)>
+    requires { endpoint.now.turn ≤ 1 }
+    ensures { at_number result ≡ Poll.ready endpoint.now }
 {
-    let first = endpoint.slots[0];
-    let second = endpoint.slots[1];
-    if first.paused || second.paused {
-        return Ready::Nothing;
+    if endpoint.slots[0].paused || endpoint.slots[1].paused {
+        return None;
     }
     chosen(endpoint)
 }
 
-// A control reply goes if the last packet was not control or no command packet is ready; else a command packet that is ready.
-#[tactic(auto, unfolding(machine::specs::Poll::ready))]
-fn polled_by(
-    endpoint: Endpoint,
-    store0: &[u8],
-    store1: &[u8],
+// A control reply goes if the last packet was not control or no command packet is ready; else a command packet that is ready. Gives the packet's
+// length.
+fn hand_out(
+    endpoint: &mut Endpoint,
+    store0: &Store,
+    store1: &Store,
     buffer: &mut [u8],
-    next: Ready,
-) -> PollDone
-    requires valid { Valid endpoint × (next ≡ Poll.ready endpoint) }
-    requires sizes { (length store0.now ≡ store_size) × (length store1.now ≡ store_size) × (packet_room endpoint ≤ length buffer.old) }
-    ensures { polled_to result.answer result.endpoint buffer.new ≡ polled_by (world endpoint store0.now store1.now) buffer.old next }
+) -> Option<usize>
+    requires { Valid endpoint.old × (packet_room endpoint.old ≤ length buffer.old) }
+    ensures leaves { polled_to (Ok result) endpoint.new buffer.new ≡ polled_by (world endpoint.old store0.now store1.now) buffer.old endpoint.old.reply (Poll.ready endpoint.old) }
+    ensures fits { IfSome result (λ n. n ≤ length buffer.old) }
 {
-    let Ready::From(slot, outgoing) = next else {
-        if endpoint.reply_waits {
-            return sent_control(endpoint, buffer);
+    let ready = ready(endpoint);
+    if let Some(reply) = endpoint.reply {
+        if ready.is_none() || !endpoint.last_control {
+            return Some(send_control(endpoint, reply, buffer));
         }
-        return PollDone {
-            answer: PollAnswer::Nothing,
-            endpoint,
-        };
-    };
-    if endpoint.reply_waits && !endpoint.last_control {
-        return sent_control(endpoint, buffer);
     }
-    sent_command(endpoint, store0, store1, slot, outgoing, buffer)
+    let (slot, outgoing) = ready?;
+    Some(send_command(endpoint, store0, store1, slot, outgoing, buffer))
 }
 
 // Hands out the next packet, if there is one. 40: a store of another length; 36: the buffer is below the unit and four bytes.
 #[tactic(auto, unfolding(machine::specs::Poll::polled))]
-pub fn poll(endpoint: Endpoint, store0: &[u8], store1: &[u8], buffer: &mut [u8]) -> PollDone
-    requires { Valid endpoint }
-    ensures leaves { polled_to result.answer result.endpoint buffer.new ≡ polled (world endpoint store0.now store1.now) buffer.old }
-    ensures answer_value { (poll_says result.answer).0 ≡ poll_number (world endpoint store0.now store1.now) buffer.old }
-    ensures valid { Valid result.endpoint }
+pub fn poll(
+    endpoint: &mut ValidEndpoint,
+    store0: &[u8],
+    store1: &[u8],
+    buffer: &mut [u8],
+) -> Result<Option<usize>, Refusal>
+    ensures leaves { polled_to (numbered result) endpoint.new buffer.new ≡ polled (world endpoint.old store0.now store1.now) buffer.old }
+    ensures answer_value { (poll_says (numbered result)).0 ≡ poll_number (world endpoint.old store0.now store1.now) buffer.old }
+    ensures fits { IfOk result (λ sent. IfSome sent (λ n. n ≤ length buffer.old)) }
 {
-    if wrong_stores(store0.len(), store1.len()) {
-        return PollDone {
-            answer: PollAnswer::Refused(answers::WRONG_STORES),
-            endpoint,
-        };
+    let (store0, store1) = both_stores(store0, store1)?;
+    if buffer.len() < usize::from(endpoint.state.unit) + HEADER_SIZE {
+        return Err(Refusal::ShortBuffer);
     }
-    if buffer.len() < endpoint.unit as usize + HEADER_SIZE {
-        return PollDone {
-            answer: PollAnswer::Refused(answers::SHORT_BUFFER),
-            endpoint,
-        };
-    }
-    let next = ready(endpoint);
-    polled_by(endpoint, store0, store1, buffer, next)
+    Ok(hand_out(&mut endpoint.state, store0, store1, buffer))
 }

@@ -1,16 +1,18 @@
 // "Control primitives" of document 01. A primitive acts on the whole at once, and its reply waits in the state.
 #![tactic(auto)]
 
-ghost use Rattle.std.specs.Prelude.{◌≡◌, ◌≤◌, ◌<◌, ◌&&◌, eqb, length};
+ghost use Rattle.std.specs.Prelude.{◌≡◌, ◌≤◌, ◌<◌, length};
+ghost use Rattle.nvme_mi.specs.Message.{opcode_number};
 ghost use Rattle.machine.specs.State.{held_in};
 ghost use Rattle.machine.specs.Control;
-ghost use Rattle.machine.specs.Control.{pause_word, resumed_slot, taken_word, abort_word, state_number, state_word, clear_flags};
+ghost use Rattle.machine.specs.Control.{acted, pause_word, resumed_slot, taken_word, abort_word, state_number, state_word, clear_flags};
 
-use machine::{Acted, Endpoint, Held, Outgoing, Phase, Slot, Taking, flags};
+use machine::{Endpoint, Outgoing, Phase, Reply, Response, Slot, Taking, flags};
 use mctp::Header;
-use nvme_mi::{ABORT, Fault, GET_STATE, MessageHeader, PAUSE, RESUME};
-use slots::{dropped, pause, phase_of, with_slot};
+use nvme_mi::{MessageHeader, Opcode};
+use slots::{SlotNumber, drop_slot, pause};
 
+// The value where the test holds, else 0. A product with `u16::from` was tried, and the proof of the state's word didn't close.
 fn bit(set: bool, value: u16) -> u16
     ensures { result ≡ Control.bit set value }
 {
@@ -18,12 +20,10 @@ fn bit(set: bool, value: u16) -> u16
 }
 
 // CPSR of Pause: the flags of slots 0 and 1.
-fn pause_word(endpoint: Endpoint) -> u16
-    ensures { result ≡ pause_word endpoint }
+fn pause_word(endpoint: &Endpoint) -> u16
+    ensures { result ≡ pause_word endpoint.now }
 {
-    let first = endpoint.slots[0];
-    let second = endpoint.slots[1];
-    bit(first.paused, 1) | bit(second.paused, 2)
+    bit(endpoint.slots[0].paused, 1) | bit(endpoint.slots[1].paused, 2)
 }
 
 // A response that waited for its flag goes to Transmit.
@@ -31,36 +31,25 @@ fn released(phase: Phase) -> Phase
     ensures { result ≡ Control.released phase }
 {
     match phase {
-        Phase::Idle(_) => phase,
-        Phase::Receive(_) => phase,
-        Phase::Process(_) => phase,
         Phase::Answered(response) => Phase::Transmit(Outgoing { response, sent: 0 }),
-        Phase::Transmit(_) => phase,
+        _ => phase,
     }
 }
 
-fn resumed_slot(slot: Slot) -> Slot
-    ensures { result ≡ resumed_slot slot }
+fn resume_slot(slot: &mut Slot)
+    ensures { slot.new ≡ resumed_slot slot.old }
 {
-    let before = slot.phase;
-    let phase = released(before);
-    Slot {
-        paused: false,
-        phase,
-        ..slot
-    }
+    slot.paused = false;
+    slot.phase = released(slot.phase);
 }
 
 // Resume: clears both flags.
 #[tactic(auto, unfolding(machine::specs::Control::resume))]
-fn resume(endpoint: Endpoint) -> Endpoint
-    ensures { result ≡ Control.resume endpoint }
+fn resume(endpoint: &mut Endpoint)
+    ensures { endpoint.new ≡ Control.resume endpoint.old }
 {
-    let slots = [
-        resumed_slot(endpoint.slots[0]),
-        resumed_slot(endpoint.slots[1]),
-    ];
-    Endpoint { slots, ..endpoint }
+    resume_slot(&mut endpoint.slots[0]);
+    resume_slot(&mut endpoint.slots[1]);
 }
 
 // Of a command in Process: 1 says that it was stopped with no effect.
@@ -68,8 +57,8 @@ fn taken_word(taking: Taking) -> u16
     ensures { result ≡ taken_word taking }
 {
     match taking {
-        Taking::Untaken => 1,
-        Taking::Taken(can) => if can { 1 } else { 2 },
+        Taking::Untaken | Taking::Taken(true) => 1,
+        Taking::Taken(false) => 2,
     }
 }
 
@@ -78,14 +67,9 @@ fn abort_word(phase: Phase) -> u16
     ensures { result ≡ abort_word phase }
 {
     match phase {
-        Phase::Idle(_) => 0,
         Phase::Receive(_) => 1,
-        Phase::Process(request) => {
-            let taking = request.taking;
-            taken_word(taking)
-        }
-        Phase::Answered(_) => 0,
-        Phase::Transmit(_) => 0,
+        Phase::Process(request) => taken_word(request.taking),
+        Phase::Idle(_) | Phase::Answered(_) | Phase::Transmit(_) => 0,
     }
 }
 
@@ -95,21 +79,18 @@ fn state_number(phase: Phase) -> u16
     match phase {
         Phase::Idle(_) => 0,
         Phase::Receive(_) => 1,
-        Phase::Process(_) => 2,
-        Phase::Answered(_) => 2,
+        Phase::Process(_) | Phase::Answered(_) => 2,
         Phase::Transmit(_) => 3,
     }
 }
 
 // CPSR of Get State: the slot's state and its own flags, and the endpoint's flags.
 #[tactic(auto, unfolding(machine::specs::Control::state_word))]
-fn state_word(endpoint: Endpoint, slot: usize) -> u16
-    requires { slot < 2 }
-    ensures { result ≡ state_word endpoint slot }
+fn state_word(endpoint: &Endpoint, slot: SlotNumber) -> u16
+    ensures { result ≡ state_word endpoint.now slot.number }
 {
-    let s = endpoint.slots[slot];
-    let phase = s.phase;
-    state_number(phase)
+    let s = &endpoint.slots[slot.number];
+    state_number(s.phase)
         | bit(s.busy, flags::SLOT_NOT_IDLE)
         | endpoint.flags
         | bit(s.paused, flags::PAUSED)
@@ -117,125 +98,99 @@ fn state_word(endpoint: Endpoint, slot: usize) -> u16
 
 // Clears the endpoint's flags and the slot's bit 3.
 #[tactic(auto, unfolding(machine::specs::Control::clear_flags))]
-fn clear_flags(endpoint: Endpoint, slot: usize) -> Endpoint
-    requires { slot < 2 }
-    ensures { result ≡ clear_flags endpoint slot }
+fn clear_flags(endpoint: &mut Endpoint, slot: SlotNumber)
+    ensures { endpoint.new ≡ clear_flags endpoint.old slot.number }
 {
-    let s = endpoint.slots[slot];
-    let anew = with_slot(endpoint, slot, Slot { busy: false, ..s });
-    Endpoint { flags: 0, ..anew }
+    endpoint.slots[slot.number].busy = false;
+    endpoint.flags = 0;
 }
 
-// What a slot holds: only an Idle one has it.
-fn held_in(phase: Phase) -> Held
+// What a slot in this phase holds: only an Idle one has it.
+fn held_in(phase: Phase) -> Option<Response>
     ensures { result ≡ held_in phase }
 {
     match phase {
         Phase::Idle(held) => held,
-        Phase::Receive(_) => Held::NoResponse,
-        Phase::Process(_) => Held::NoResponse,
-        Phase::Answered(_) => Held::NoResponse,
-        Phase::Transmit(_) => Held::NoResponse,
+        _ => None,
     }
 }
 
 // Replay: a response that the slot still holds goes to Transmit, and CPSR is 1. Else nothing happens.
 #[tactic(auto, unfolding(machine::specs::Control::replay))]
-fn replay(endpoint: Endpoint, slot: usize) -> Acted
-    requires { slot < 2 }
-    ensures { result ≡ Control.replay endpoint slot }
+fn replay(endpoint: &mut Endpoint, slot: SlotNumber) -> u16
+    ensures { acted endpoint.new result ≡ Control.replay endpoint.old slot.number }
 {
-    let s = endpoint.slots[slot];
-    let before = s.phase;
-    let held = held_in(before);
-    let Held::Last(response) = held else {
-        return Acted { endpoint, cpsr: 0 };
+    let Some(response) = held_in(endpoint.slots[slot.number].phase) else {
+        return 0;
     };
-    let phase = Phase::Transmit(Outgoing { response, sent: 0 });
-    Acted {
-        endpoint: with_slot(endpoint, slot, Slot { phase, ..s }),
-        cpsr: 1,
-    }
+    endpoint.slots[slot.number].phase = Phase::Transmit(Outgoing { response, sent: 0 });
+    1
 }
 
-// The five primitives. The opcode that is left is Replay's.
+// A primitive acts, and gives its CPSR.
 #[tactic(auto, unfolding(machine::specs::Control::primitive))]
-fn primitive(endpoint: Endpoint, opcode: u8, slot: usize, clear: bool) -> Acted
-    requires { slot < 2 }
-    ensures { result ≡ Control.primitive endpoint opcode slot clear }
+fn act(endpoint: &mut Endpoint, opcode: Opcode, slot: SlotNumber, clear: bool) -> u16
+    ensures { acted endpoint.new result ≡ Control.primitive endpoint.old (opcode_number opcode) slot.number clear }
 {
-    if opcode == PAUSE {
-        let paused = pause(endpoint);
-        return Acted {
-            endpoint: paused,
-            cpsr: pause_word(paused),
-        };
-    }
-    if opcode == RESUME {
-        return Acted {
-            endpoint: resume(endpoint),
-            cpsr: 0,
-        };
-    }
-    if opcode == ABORT {
-        return Acted {
-            endpoint: dropped(endpoint, slot),
-            cpsr: abort_word(phase_of(endpoint, slot)),
-        };
-    }
-    if opcode == GET_STATE {
-        let cpsr = state_word(endpoint, slot);
-        if clear {
-            return Acted {
-                endpoint: clear_flags(endpoint, slot),
-                cpsr,
-            };
+    match opcode {
+        Opcode::Pause => {
+            pause(endpoint);
+            pause_word(endpoint)
         }
-        return Acted { endpoint, cpsr };
+        Opcode::Resume => {
+            resume(endpoint);
+            0
+        }
+        Opcode::Abort => {
+            let cpsr = abort_word(endpoint.slots[slot.number].phase);
+            drop_slot(endpoint, slot);
+            cpsr
+        }
+        Opcode::GetState => {
+            let cpsr = state_word(endpoint, slot);
+            if clear {
+                clear_flags(endpoint, slot);
+            }
+            cpsr
+        }
+        Opcode::Replay => replay(endpoint, slot),
     }
-    replay(endpoint, slot)
 }
 
 // A reply with this body waits for the sender of the packet. A newer one replaces it whole.
-fn replied(endpoint: Endpoint, header: Header, csi: u8, body: [u8; 4]) -> Endpoint
-    ensures { result ≡ Control.replied endpoint header csi body }
+fn reply(endpoint: &mut Endpoint, header: Header, csi: u8, body: [u8; 4])
+    ensures { endpoint.new ≡ Control.replied endpoint.old header csi body }
 {
-    let reply = nvme_mi::control_reply(csi, body);
-    Endpoint {
-        reply,
-        reply_waits: true,
-        reply_to: header.source,
-        reply_tag: header.tag,
-        ..endpoint
-    }
+    endpoint.reply = Some(Reply {
+        to: header.source,
+        tag: header.tag,
+        message: nvme_mi::control_reply(csi, body),
+    });
 }
 
-// Both bytes of CPSP are 0.
-fn is_zero(low: u8, high: u8) -> bool
-    ensures { result ≡ (eqb low 0 && eqb high 0) }
-{
-    low == 0 && high == 0
-}
-
-// A control primitive that came whole, with a right check: it acts, or is refused by an error reply.
+// A control primitive that came whole, with a right check: it acts, or is refused by an error reply. CSI is a byte of the header, which the definitions
+// of specs/ make of any byte, so that its bound is a clause here.
 #[tactic(auto, unfolding(machine::specs::Control::controlled))]
-pub fn controlled(
-    endpoint: Endpoint,
+pub fn control(
+    endpoint: &mut Endpoint,
     header: Header,
     message_header: MessageHeader,
     message: &[u8],
-) -> Endpoint
+)
     requires { (message_header.csi < 2) × (8 ≤ length message.now) }
-    ensures { result ≡ Control.controlled endpoint header message_header message.now }
+    ensures { endpoint.new ≡ Control.controlled endpoint.old header message_header message.now }
 {
     let csi = message_header.csi;
-    let opcode = message[4];
-    let fault = nvme_mi::control_fault(message_header, opcode, is_zero(message[6], message[7]));
-    let Fault::NoFault = fault else {
-        return replied(endpoint, header, csi, nvme_mi::fault_body(fault));
+    let slot = SlotNumber {
+        number: usize::from(csi),
     };
-    let acted = primitive(endpoint, opcode, csi as usize, message[6] % 2 == 1);
-    let body = nvme_mi::success_body(message[5], acted.cpsr);
-    let anew = acted.endpoint;
-    replied(anew, header, csi, body)
+    let no_parameter = message[6] == 0 && message[7] == 0;
+    let body = match nvme_mi::check_control(message_header, message[4], no_parameter) {
+        Ok(opcode) => {
+            let cpsr = act(endpoint, opcode, slot, message[6] % 2 == 1);
+            nvme_mi::success_body(message[5], cpsr)
+        }
+        Err(fault) => nvme_mi::fault_body(Err(fault)),
+    };
+    reply(endpoint, header, csi, body);
 }

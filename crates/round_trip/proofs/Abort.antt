@@ -7,6 +7,7 @@ use mathlib.Core.List.{List, ◌++◌}
 use native.Mathlib.Omega.{arith}
 use lib.ListN.{length, take, drop, get_or-append}
 use Rattle.lent.specs.Bytes.{byte_at}
+use Rattle.machine.specs.State.{reply_message}
 use Rattle.machine.specs.Calls.{receive, step}
 use Rattle.machine.specs.History.{bytes_from4, is_abort, run, start}
 use Rattle.machine.specs.Replies.{csi_of, body_of, reply_of}
@@ -27,7 +28,7 @@ abort_returns eid unit store0 store1 a b xs i is r tag primitive_tag cpsp buffer
     let own = h.world.endpoint.eid in
     let p = abort_of i primitive_tag cpsp in
     let packet = take 16 (primitive_to r own tag p buffer).buffer in
-    let reply = (step (receive packet) h.world).world.endpoint.reply in
+    let reply = reply_message (step (receive packet) h.world).world.endpoint.reply in
     let acts : is_abort i own packet ≡ true = ap (is_abort i own) (built r own tag p buffer v t is room).1 ∙ is_abort_lem own r.eid tag i primitive_tag cpsp t is in
     let told : reply ≡ reply_of (bytes_from4 packet) (abort_told h packet i) = (abort_tells eid unit store0 store1 a b xs packet i is acts).1 in
     let twelve : length reply ≡ 12 =

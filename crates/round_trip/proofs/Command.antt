@@ -4,16 +4,15 @@ use Prim.Native.Nat.{ℕ, zero, suc, ◌-◌, ◌≤◌}
 use mathlib.Core.Path.{◌≡◌, refl, ap, ◌∙◌}
 use mathlib.Core.Bool.{true, false}
 use mathlib.Core.List.{List, [], ◌∷◌, ◌++◌}
-use native.Mathlib.Omega.{arith}
 use lib.Dec.{eqb}
 use lib.ListN.{length, take, replicate}
-use borrow.Author.Tests.{lt-ltb, le-ltb}
+use borrow.Author.Tests.{le-ltb}
 use Rattle.mctp.specs.Cut.{cut}
 use Rattle.mctp.specs.Feed.{answers, left}
 use Rattle.opening.specs.Formed.{WellFormed}
 use Rattle.opening.proofs.Joining.{front_of}
 use Rattle.machine.specs.State.{World, slot_at, store_at, with_phase, next_ticket}
-use Rattle.machine.specs.Finish.{is_slot, taken_request, taken, part}
+use Rattle.machine.specs.Finish.{taken_request, taken, part}
 use Rattle.machine.specs.Valid.{Sound}
 use Rattle.machine.specs.Calls.{Call, receive, take!, read, Event, number, given, part_read, step, events}
 use Rattle.machine.specs.History.{phase_at, fixed_at_entry, unit_of, over_unit}
@@ -24,6 +23,7 @@ use Rattle.machine.specs.declared.Request.{Request}
 use Rattle.machine.specs.declared.Phase.TheVariants.{Process}
 use Rattle.machine.proofs.Places.{slot_this, Which, this, that, which}
 use Rattle.machine.proofs.Receiving.{csi_most}
+use Rattle.machine.proofs.Tickets.{slot_yes}
 use Rattle.controller.specs.State.{Valid}
 use Rattle.controller.specs.Send.{cut_to}
 use Rattle.controller.specs.Grounds.{cut_numbers, size_of, packets_in}
@@ -59,18 +59,15 @@ zeros_then (suc n) x y = ap (λ (es : List Event). number 0 ∷ es) (zeros_then 
 
 -- ---- taking, and reading what was taken
 
-slot_number : (i : ℕ) → i ≤ 1 → is_slot i ≡ true
-slot_number i is = lt-ltb i 2 (omega arith)
-
 takes : (w : World) (i : ℕ) → i ≤ 1 → (r : Request) → r.taking ≡ Untaken → phase_at w i ≡ Process r → (step (take! i) w).event ≡ given (slot_at w.endpoint i).ticket
 unfolding step taken
-takes w i is r u p = rw (slot_number i is, p, u) refl
+takes w i is r u p = rw (slot_yes i is, p, u) refl
 
 reads : (w : World) → Sound w → (i : ℕ) → i ≤ 1 → (r : Request) → r.taking ≡ Untaken → phase_at w i ≡ Process r
     → (step (read i) (step (take! i) w).world).event ≡ part_read (take r.length (store_at w i))
 unfolding step taken part
 reads w s i is r u p =
-    rw (slot_number i is, p, u, s.size0, s.size1, slot_this i is s.state (with_phase (slot_at w.endpoint i) (Process (taken_request r false)))) refl
+    rw (slot_yes i is, p, u, s.size0, s.size1, slot_this i is s.state (with_phase (slot_at w.endpoint i) (Process (taken_request r false)))) refl
 
 -- both, where the command has come
 pub reads_back : (w₀ w : World) (source tag : ℕ) (m : List ℕ) → Entered w₀ source tag m w → (step (read (csi_of m)) (step (take! (csi_of m)) w).world).event ≡ part_read m

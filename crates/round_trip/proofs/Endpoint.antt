@@ -10,7 +10,7 @@ use native.Mathlib.Omega.{arith}
 use lib.Dec.{eqb-suc-zero}
 use lib.ListN.{length, take, drop, replicate, length-take}
 use borrow.Author.Tests.{eq-eqb}
-use Rattle.std.specs.Prelude.{if◌then◌else◌}
+use Rattle.std.specs.Prelude.{Result, Ok, Err, Option, None, Some, if◌then◌else◌}
 use Rattle.lent.specs.Bytes.{put}
 use Rattle.lent.proofs.Choice.{if_ind, false_true}
 use Rattle.mctp.specs.Header.{read_header, payload_of}
@@ -18,14 +18,12 @@ use Rattle.mctp.specs.Cut.{packets, payload, packet, cut}
 use Rattle.mctp.specs.Gather.{join_refusal}
 use Rattle.mctp.specs.declared.Header.{Header}
 use Rattle.mctp.specs.declared.Route.{Route}
-use Rattle.mctp.specs.declared.Read.TheVariants.{Packet}
 use Rattle.mctp.proofs.Laws.{packets_bounds, header_of, read_of_cut}
 use Rattle.mctp.proofs.Gathering.{no_refusal}
 use Rattle.mctp.proofs.Feeding.{Leads, Fed, fed}
 use Rattle.nvme_mi.specs.Message.{message_header, command_fault}
 use Rattle.nvme_mi.specs.declared.MessageHeader.{MessageHeader}
 use Rattle.nvme_mi.specs.declared.Fault.{Fault}
-use Rattle.nvme_mi.specs.declared.Fault.TheVariants.{NoFault, Parameter, Failure}
 use Rattle.opening.specs.Formed.{WellFormed}
 use Rattle.opening.specs.Opening.{opened, joined_in}
 use Rattle.opening.specs.declared.First.TheVariants.{Command}
@@ -43,13 +41,10 @@ use Rattle.machine.specs.Demands.{is_idle_now}
 use Rattle.machine.specs.Replies.{csi_of}
 use Rattle.machine.specs.declared.Assembly.{Assembly}
 use Rattle.machine.specs.declared.Request.{Request}
-use Rattle.machine.specs.declared.Held.TheVariants.{NoResponse}
 use Rattle.machine.specs.declared.Phase.{Phase}
 use Rattle.machine.specs.declared.Phase.TheVariants.{Idle, Receive, Process, Answered, Transmit}
 use Rattle.machine.specs.declared.Slot.{Slot}
 use Rattle.machine.specs.declared.Endpoint.{Endpoint}
-use Rattle.machine.specs.declared.Holder.{Holder}
-use Rattle.machine.specs.declared.Holder.TheVariants.{At}
 use Rattle.machine.proofs.Slots.{alone_at, other_most}
 use Rattle.machine.proofs.Places.{end_of, slot_this, slot_that, slot_both, store_this, store_that}
 use Rattle.machine.proofs.Receiving.{right_stores, csi_most, receives_gathers}
@@ -72,7 +67,7 @@ idle_gathers source tag (Transmit r) h = refl
 idle_kept : (source tag : ℕ) (s : Slot) → is_idle s.phase ≡ true → ended_slot source tag s ≡ s
 idle_kept source tag s h = rw (idle_gathers source tag s.phase h) refl
 
-passed : (source tag i : ℕ) (p : Phase) (other : Holder) → gathers source tag p ≡ false → holder_in source tag i p other ≡ other
+passed : (source tag i : ℕ) (p : Phase) (other : Option (ℕ × Assembly)) → gathers source tag p ≡ false → holder_in source tag i p other ≡ other
 passed source tag i (Idle held) other h = refl
 passed source tag i (Receive a) other h = rw h refl
 passed source tag i (Process r) other h = refl
@@ -80,7 +75,7 @@ passed source tag i (Answered r) other h = refl
 passed source tag i (Transmit r) other h = refl
 
 -- the slot in Receive with an assembly is the one that its source and tag find
-finds : {e : Endpoint} (i : ℕ) → i ≤ 1 → Valid e → (a : Assembly) → (slot_at e i).phase ≡ Receive a → holder e a.source a.tag ≡ At i a
+finds : {e : Endpoint} (i : ℕ) → i ≤ 1 → Valid e → (a : Assembly) → (slot_at e i).phase ≡ Receive a → holder e a.source a.tag ≡ Some (i, a)
 unfolding holder
 finds zero is v a p = rw (p, eq-eqb a.source a.source refl, eq-eqb a.tag a.tag refl) refl
 finds {e} (suc zero) is v a p =
@@ -91,13 +86,12 @@ finds (suc (suc n)) is v a p = absurd (omega arith)
 -- ---- entering Process
 
 -- "the endpoint makes no response at once"
-no_fault : (i : ℕ) (m : List ℕ) → fixed_at_entry i m ≡ [] → command_fault (message_header m) (length m) ≡ NoFault
+no_fault : (i : ℕ) (m : List ℕ) → fixed_at_entry i m ≡ [] → command_fault (message_header m) (length m) ≡ Ok tt
 no_fault i m h = by (command_fault (message_header m) (length m)) (sym (fixed_is i m) ∙ h)
   where
-    by : (f : Fault) → at_entry i m f ≡ [] → f ≡ NoFault
-    by NoFault e = refl
-    by (Parameter byte bit) e = absurd (filled i m _ e)
-    by (Failure status) e = absurd (filled i m _ e)
+    by : (f : Result (Unit {0}) Fault) → at_entry i m f ≡ [] → f ≡ Ok tt
+    by (Ok none) e = refl
+    by (Err fault) e = absurd (filled i m _ e)
 
 -- Pause, if it acts, leaves the phase and the ticket
 paused_phase : (s : Slot) → (paused_slot s).phase ≡ s.phase
@@ -120,7 +114,7 @@ ticket_if false e i is = refl
 ended_phase : (source tag : ℕ) (s : Slot) → (ended_slot source tag s).phase ≡ ended_under source tag s.phase
 ended_phase source tag s = rw (receives_gathers source tag s.phase) (go (gathers source tag s.phase))
   where
-    go : (b : Bool) → (if b then idled s else s).phase ≡ (if b then Idle NoResponse else s.phase)
+    go : (b : Bool) → (if b then idled s else s).phase ≡ (if b then Idle None else s.phase)
     go true = refl
     go false = refl
 
@@ -135,7 +129,7 @@ record Enters (v : World) (i : ℕ) (r : Request) (w : World) : Type 0 where
   that_phase : phase_at w (other_slot i) ≡ phase_at v (other_slot i)
   that_ticket : (slot_at w.endpoint (other_slot i)).ticket ≡ (slot_at v.endpoint (other_slot i)).ticket
 
-enters : (v : World) (i : ℕ) → i ≤ 1 → Valid v.endpoint → (a : Assembly) (mh : MessageHeader) → command_fault mh a.length ≡ NoFault
+enters : (v : World) (i : ℕ) → i ≤ 1 → Valid v.endpoint → (a : Assembly) (mh : MessageHeader) → command_fault mh a.length ≡ Ok tt
     → Enters v i (request a mh) (entered v i a mh)
 unfolding entered
 enters v i is ok a mh none =
@@ -153,21 +147,21 @@ enters v i is ok a mh none =
 
 -- ---- one packet
 
-received_is : (w : World) (p : List ℕ) (h : Header) → Sound w → read_header w.endpoint.eid w.endpoint.unit inward p ≡ Packet h → received w p ≡ received_by w (payload_of p) (Packet h)
+received_is : (w : World) (p : List ℕ) (h : Header) → Sound w → read_header w.endpoint.eid w.endpoint.unit inward p ≡ Ok h → received w p ≡ received_by w (payload_of p) (Ok h)
 unfolding received
 received_is w p h s e = rw (right_stores w s) (ap (received_by w (payload_of p)) e)
 
 -- with SOM, a command for an Idle slot
-first_is : (v : World) (h : Header) (m : List ℕ) (i : ℕ) → opened v.endpoint.unit false h m ≡ Command → (message_header m).csi ≡ i → is_idle (phase_at v i) ≡ true
+first_is : (v : World) (h : Header) (m : List ℕ) (i : ℕ) → opened v.endpoint.unit false h m ≡ Ok Command → (message_header m).csi ≡ i → is_idle (phase_at v i) ≡ true
     → first v h m ≡ gathered v i 0 h m
 unfolding first first_command
 first_is v h m i o c idle = ap (first_by v h m) o ∙ rw (c, idle) refl
 
-without_som : (w : World) (h : Header) (p : List ℕ) → h.som ≡ false → received_by w p (Packet h) ≡ later w h p
+without_som : (w : World) (h : Header) (p : List ℕ) → h.som ≡ false → received_by w p (Ok h) ≡ later w h p
 without_som w h p e = rw e refl
 
 -- without SOM, one that joins
-later_is : (w : World) (h : Header) (p : List ℕ) (i : ℕ) (a : Assembly) → holder w.endpoint h.source h.tag ≡ At i a
+later_is : (w : World) (h : Header) (p : List ℕ) (i : ℕ) (a : Assembly) → holder w.endpoint h.source h.tag ≡ Some (i, a)
     → join_refusal w.endpoint.unit store_size a.sequence a.length h (length p) ≡ 0 → later w h p ≡ gathered w i a.length h p
 unfolding later later_at
 later_is w h p i a e j = ap (later_by w h p) e ∙ rw j refl
@@ -272,11 +266,11 @@ module _ (w₀ : World) (source tag : ℕ) (m : List ℕ) (s₀ : Sound w₀) (s
 
   -- the packet is read
   reading : (k : ℕ) (w : World) → Sound w → end_of w.endpoint ≡ end_of w₀.endpoint → unit * k < length m
-      → received w (packet unit route m k) ≡ received_by w (bytes k) (Packet (head k))
+      → received w (packet unit route m k) ≡ received_by w (bytes k) (Ok (head k))
   reading k w s ours inside =
       received_is w (packet unit route m k) (head k) s
       (ap (λ (e : ℕ × ℕ). read_header e.0 e.1 inward (packet unit route m k)) ours ∙ read_of_cut unit route m k pos inside)
-      ∙ ap (λ (x : List ℕ). received_by w x (Packet (head k))) (unfold packet in refl)
+      ∙ ap (λ (x : List ℕ). received_by w x (Ok (head k))) (unfold packet in refl)
 
   abbrev freed : World → World
   freed w = with_endpoint w (end_assembly w.endpoint source (tag % 8))
@@ -309,7 +303,7 @@ module _ (w₀ : World) (source tag : ℕ) (m : List ℕ) (s₀ : Sound w₀) (s
       end_same : end_of (freed w).endpoint ≡ end_of w₀.endpoint
       end_same = unfold end_assembly in r.held.ours
 
-      first_so : received_by w (bytes 0) (Packet (head 0)) ≡ gathered (freed w) here (unit * 0) (head 0) (bytes 0)
+      first_so : received_by w (bytes 0) (Ok (head 0)) ≡ gathered (freed w) here (unit * 0) (head 0) (bytes 0)
       first_so =
           first_is (freed w) (head 0) (bytes 0) here (ap (λ (e : ℕ × ℕ). opened e.1 false (head 0) (bytes 0)) end_same ∙ opens unit false route m wide good)
           (ap (λ (x : ℕ). x % 2) (front_byte unit m 1 (omega (arith, wide))))
@@ -323,7 +317,7 @@ module _ (w₀ : World) (source tag : ℕ) (m : List ℕ) (s₀ : Sound w₀) (s
       gathered_length : length (take (unit * (k + 1)) m) ≡ unit * suc k
       gathered_length = length-take (unit * (k + 1)) m ∙ omega arith
 
-      later_so : received_by w (bytes (suc k)) (Packet (head (suc k))) ≡ gathered w here (unit * suc k) (head (suc k)) (bytes (suc k))
+      later_so : received_by w (bytes (suc k)) (Ok (head (suc k))) ≡ gathered w here (unit * suc k) (head (suc k)) (bytes (suc k))
       later_so =
           without_som w (head (suc k)) (bytes (suc k)) (eqb-suc-zero k)
           ∙ later_is w (head (suc k)) (bytes (suc k)) here (so_far k) (finds here is r.held.sound.state (so_far k) p)

@@ -12,7 +12,8 @@ use lib.Seq.{length-take-le}
 use borrow.Author.Tests.{eq-eqb, eqb-false, ltb-false}
 use Rattle.std.specs.Prelude.{if◌then◌else◌}
 use Rattle.lent.specs.Bytes.{byte_at, is_set}
-use Rattle.lent.proofs.Choice.{if_ind, or_left, or_right, false_true}
+use Rattle.std.proofs.lemmas.Bool.{or_parts}
+use Rattle.lent.proofs.Choice.{if_ind, false_true}
 use Rattle.nvme_mi.specs.Check.{check_right, with_check}
 use Rattle.nvme_mi.proofs.Laws.{length_with_check, check_of_own}
 use Rattle.opening.specs.Formed.{WellFormed}
@@ -175,8 +176,8 @@ completed_formed h g i is t body e old =
     let long : 8 ≤ length (h.trace i).request =
     rw (sym k.held) (rw (length-take-le r.length (store_at h.world i) (rw (store_at_lem i g.sound) f.1)) f.0) in
     formed i (h.trace i).request body is (long_kind (h.trace i).request old (omega arith))
-    (ltb-false (length body) 4 (or_left (ltb (length body) 4) (ltb 4216 (length body)) sizes))
-    (ltb-false 4216 (length body) (or_right (ltb (length body) 4) (ltb 4216 (length body)) sizes))
+    (ltb-false (length body) 4 (or_parts (ltb (length body) 4) (ltb 4216 (length body)) sizes).0)
+    (ltb-false 4216 (length body) (or_parts (ltb (length body) 4) (ltb 4216 (length body)) sizes).1)
 
 -- ---- along a list of calls
 

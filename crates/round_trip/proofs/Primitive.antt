@@ -9,11 +9,12 @@ use native.Mathlib.Omega.{arith}
 use lib.Dec.{eqb, ltb}
 use lib.ListN.{length, take, drop}
 use borrow.Author.Tests.{eqb-true, eq-eqb, le-ltb}
+use Rattle.std.specs.Option.{is_some}
 use Rattle.lent.specs.Bytes.{byte_at, is_set, put}
 use Rattle.lent.proofs.Choice.{if_ind, differ}
 use Rattle.nvme_mi.specs.Check.{with_check}
 use Rattle.nvme_mi.proofs.Laws.{length_with_check, check_of_own}
-use Rattle.machine.specs.State.{World}
+use Rattle.machine.specs.State.{World, reply_message}
 use Rattle.machine.specs.Receive.{received as received_at}
 use Rattle.machine.specs.Valid.{Sound}
 use Rattle.machine.specs.Calls.{Call, receive, Event, number, handed_out, step}
@@ -169,10 +170,9 @@ module _ (w : World) (ok : Sound w) (r : Requester) (tag : ℕ) (p : Primitive) 
   goes_as : reply_packet after.endpoint
       ≡ 1 ∷ r.eid ∷ w.endpoint.eid ∷ (0xC0 + tag % 8) ∷ reply_with (csi_of (bytes_from4 request)) (body_of (bytes_from4 request) cpsr)
   goes_as =
-      let under : after.endpoint.reply_tag ≡ tag = replied_so.under ∙ (header_bits tag t).1 in
-      rw (replied_so.to, replied_so.eid_is, under, replied_so.reply_is) refl
+      rw (replied_so.reply_is, replied_so.eid_is, (header_bits tag t).1) refl
 
-  comes_by : (v : Event) → v ≡ handed_out (reply_packet after.endpoint) → Comes r.eid w.endpoint.eid tag after.endpoint.reply v
+  comes_by : (v : Event) → v ≡ handed_out (reply_packet after.endpoint) → Comes r.eid w.endpoint.eid tag (reply_message after.endpoint.reply) v
   comes_by v e s ok_s size ours awaited =
       let same_packet : bytes_handed_out v ≡ 1 ∷ r.eid ∷ w.endpoint.eid ∷ (0xC0 + tag % 8) ∷ reply_with (csi_of (bytes_from4 request)) (body_of (bytes_from4 request) cpsr) =
       ap bytes_handed_out e ∙ goes_as in
@@ -182,7 +182,7 @@ module _ (w : World) (ok : Sound w) (r : Requester) (tag : ℕ) (p : Primitive) 
       (omega (arith, mod-lt (byte_at (bytes_from4 request) 1) (zero-lt-suc 1))) (body_four (bytes_from4 request) cpsr) (sym ours)
       (ap (λ (x : ℕ). is_awaited w.endpoint.eid x s.requester.awaiting) small ∙ awaited))
 
-  comes_back_by : (f : ReplyFate) → GoesWithin 2 after.endpoint f → ComesBack r.eid w.endpoint.eid tag after.endpoint.reply f
+  comes_back_by : (f : ReplyFate) → GoesWithin 2 after.endpoint f → ComesBack r.eid w.endpoint.eid tag (reply_message after.endpoint.reply) f
   comes_back_by replaced k = tt
   comes_back_by (sent n v) k = (k.0, comes_by v k.1)
   comes_back_by (waiting n e) k = k.0
@@ -194,7 +194,7 @@ module _ (w : World) (ok : Sound w) (r : Requester) (tag : ℕ) (p : Primitive) 
 -- the reply that waits after a packet of a list goes
 goes : (eid unit : ℕ) (store0 store1 : List ℕ) → length store0 ≡ 4224 → length store1 ≡ 4224 → (xs : List Call) (packet : List ℕ)
     → let w = (run xs (start eid unit store0 store1)).world in
-    (received_at w packet).world.endpoint.reply_waits ≡ true
+    is_some (received_at w packet).world.endpoint.reply ≡ true
     → (ys : List Call) → GoesWithin 2 (received_at w packet).world.endpoint (reply_fate 0 ys (received_at w packet).world)
 goes eid unit store0 store1 a b xs packet waits ys =
     let h = run xs (start eid unit store0 store1) in
@@ -212,5 +212,5 @@ primitive_answered eid unit store0 store1 a b xs r tag p buffer v t sl room =
     let ok = (good_every eid unit store0 store1 a b xs).sound in
     let c = built r w.endpoint.eid tag p buffer v t sl room in (
       c.0,
-      rw c.1 (answered_so w ok r tag p t sl (goes eid unit store0 store1 a b xs (request w ok r tag p t sl) (replied_so w ok r tag p t sl).waits)),
+      rw c.1 (answered_so w ok r tag p t sl (goes eid unit store0 store1 a b xs (request w ok r tag p t sl) (ap is_some (replied_so w ok r tag p t sl).reply_is))),
     )

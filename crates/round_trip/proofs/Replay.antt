@@ -2,12 +2,12 @@
 -- Assumes nothing.
 use Prim.Native.Nat.{ℕ, ◌≤◌}
 use mathlib.Core.Path.{◌≡◌, refl, sym, ap, ◌∙◌}
-use mathlib.Core.Bool.{Bool, true, false, ◌||◌, ◌&&◌}
+use mathlib.Core.Bool.{Bool, true, false, ◌||◌, ◌&&◌, or-true}
 use mathlib.Core.List.{List, [], ◌∷◌, ◌++◌}
 use native.Mathlib.Omega.{arith}
 use lib.Dec.{eqb}
 use lib.ListN.{length}
-use Rattle.std.specs.Prelude.{if◌then◌else◌}
+use Rattle.std.specs.Prelude.{Some, if◌then◌else◌}
 use Rattle.lent.proofs.Choice.{false_true, differ}
 use Rattle.mctp.specs.Cut.{cut}
 use Rattle.mctp.specs.declared.Route.{Route}
@@ -17,7 +17,6 @@ use Rattle.machine.specs.History.{History, phase_at, is_transmit, trace_after, u
 use Rattle.machine.specs.Demands.{is_process, is_answered, Fate, cut as cut_off, delivered, fate, route_of}
 use Rattle.machine.specs.Replays.{held_at, is_replay, SentAgain}
 use Rattle.machine.specs.declared.Response.{Response}
-use Rattle.machine.specs.declared.Held.TheVariants.{Last}
 use Rattle.machine.specs.declared.Phase.{Phase}
 use Rattle.machine.specs.declared.Phase.TheVariants.{Idle, Receive, Process, Answered, Transmit}
 use Rattle.machine.proofs.Fits.{Entry, entered, stayed}
@@ -127,11 +126,7 @@ unsent_outside i h u = by (phase_at h.world i) u
 
 -- a slot that a Replay sent to Transmit
 again_unsent : (h : History) (i : ℕ) (p : List ℕ) → SentAgain h i p → is_unsent i (next (receive p) h) ≡ true
-again_unsent h i p s = rw (s.in_transmit, s.none_went) (or_true (is_answered (phase_at (next (receive p) h).world i)))
-  where
-    or_true : (b : Bool) → (b || true) ≡ true
-    or_true true = refl
-    or_true false = refl
+again_unsent h i p s = rw (s.in_transmit, s.none_went) (or-true (is_answered (phase_at (next (receive p) h).world i)))
 
 module _ (h : History) (g : Good h) (i : ℕ) (is : i ≤ 1) (unsent : is_unsent i h ≡ true) (ys : List Call) (d : History) (out : fate i ys h ≡ delivered d) (zs : List Call)
     (alone : ((run zs d).trace i).entries ≡ (h.trace i).entries) where
@@ -154,7 +149,7 @@ module _ (h : History) (g : Good h) (i : ℕ) (is : i ≤ 1) (unsent : is_unsent
   same_unit : (run zs d).world.endpoint.unit ≡ h.world.endpoint.unit
   same_unit = rw later (run_unit calls h g)
 
-  same_bytes : (p : List ℕ) (r : Response) → held_at (run zs d).world i ≡ Last r → is_replay i (run zs d).world.endpoint.eid p ≡ true → (us : List Call) (k : History)
+  same_bytes : (p : List ℕ) (r : Response) → held_at (run zs d).world i ≡ Some r → is_replay i (run zs d).world.endpoint.eid p ≡ true → (us : List Call) (k : History)
       → fate i us (next (receive p) (run zs d)) ≡ delivered k → sent_until i us (next (receive p) (run zs d)) ≡ sent_until i ys h
   same_bytes p r e acted us k again =
       let m = run zs d in

@@ -67,7 +67,7 @@ module _ (w : World) (ok : Sound w) (i : ℕ) (is : i ≤ 1) (r : Outgoing) (t :
 
   one_poll : {b : List ℕ} {s : Stepped} → PollCase w b s → One i w r s
   one_poll (still n _) = quiet refl t
-  one_poll (replies _ _) = quiet (moved_same (phase_at w i)) t
+  one_poll (replies _ _ _) = quiet (moved_same (phase_at w i)) t
   one_poll (sends k q c _) = by (chosen_at w.endpoint ok.state c)
     where
       by : Chosen w.endpoint k q → One i w r (after_sends k q)
@@ -284,7 +284,7 @@ waits_steady r (fell c e) a n = absurd (n c)
 
 waits_poll : (w : World) → Sound w → (i : ℕ) → i ≤ 1 → (r : Response) → phase_at w i ≡ Answered r → {b : List ℕ} {s : Stepped} → PollCase w b s → Released r (phase_at s.world i)
 waits_poll w ok i is r a (still n _) = waits a
-waits_poll w ok i is r a (replies _ _) = waits a
+waits_poll w ok i is r a (replies _ _ _) = waits a
 waits_poll w ok i is r a (sends k q c _) = by (chosen_at w.endpoint ok.state c)
   where
     by : Chosen w.endpoint k q → Released r (slot_at (with_slot w.endpoint k (after_packet w.endpoint.unit (slot_at w.endpoint k) q)) i).phase

@@ -2,7 +2,7 @@
 -- with no other call between and the same 4,224-byte stores, the EIDs match, the receiving slot is Idle [..], and the endpoint makes no response at once."
 -- The proof: `command_arrives` (proofs/Command).
 -- Assumes nothing.
-use Rattle.std.specs.Prelude.{ℕ, ◌+◌, ◌-◌, ◌%◌, ◌^◌, ◌≤◌, ◌≡◌, true, false, List, [], ◌∷◌, ◌++◌, length, drop, replicate, if◌then◌else◌}
+use Rattle.std.specs.Prelude.{ℕ, ◌+◌, ◌-◌, ◌%◌, ◌^◌, ◌≤◌, ◌≡◌, true, false, List, [], ◌∷◌, ◌++◌, None, length, drop, replicate, if◌then◌else◌}
 use Rattle.opening.specs.Formed.{WellFormed}
 use Rattle.machine.specs.State.{World, slot_at, store_at}
 use Rattle.machine.specs.Valid.{Sound}
@@ -13,7 +13,6 @@ use Rattle.machine.specs.Replies.{csi_of}
 use Rattle.machine.specs.declared.Ticket.{Ticket}
 use Rattle.machine.specs.declared.Taking.TheVariants.{Untaken}
 use Rattle.machine.specs.declared.Request.{Request}
-use Rattle.machine.specs.declared.Held.TheVariants.{NoResponse}
 use Rattle.machine.specs.declared.Phase.{Phase}
 use Rattle.machine.specs.declared.Phase.TheVariants.{Idle, Process}
 use Rattle.controller.specs.State.{Valid}
@@ -45,7 +44,7 @@ next_of w i = record { 0 = ((slot_at w.endpoint i).ticket.0 + 1) % 2 ^ 32 }
 
 -- an assembly of this source and tag has ended; a slot that so enters Idle holds no response
 abbrev pub ended_under : ℕ → ℕ → Phase → Phase
-ended_under source tag p = if receives_from source tag p then Idle NoResponse else p
+ended_under source tag p = if receives_from source tag p then Idle None else p
 
 -- of a slot that the packets are not for
 pub record Untouched (source tag : ℕ) (before after : World) (j : ℕ) : Type 0 where

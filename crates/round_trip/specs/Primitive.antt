@@ -1,7 +1,7 @@
 -- A CONTROL PRIMITIVE that the requester builds is answered, and its reply comes back. The proof: `primitive_answered` (proofs/Primitive).
 -- Assumes nothing.
 use Rattle.std.specs.Prelude.{ℕ, ◌≤◌, ◌<◌, ◌≡◌, true, List, [], ◌∷◌, length, take}
-use Rattle.machine.specs.State.{World}
+use Rattle.machine.specs.State.{World, reply_message}
 use Rattle.machine.specs.Calls.{Call, receive, Event, number, step}
 use Rattle.machine.specs.Demands.{Every}
 use Rattle.machine.specs.Replies.{Replied, ReplyFate, replaced, sent, waiting, reply_fate}
@@ -37,7 +37,7 @@ pub record Answered (r : Requester) (tag : ℕ) (w : World) (packet : List ℕ) 
   pub replied : Replied w packet (step (receive packet) w).world
   pub comes_back :
       (ys : List Call)
-      → ComesBack r.eid w.endpoint.eid tag (step (receive packet) w).world.endpoint.reply (reply_fate 0 ys (step (receive packet) w).world)
+      → ComesBack r.eid w.endpoint.eid tag (reply_message (step (receive packet) w).world.endpoint.reply) (reply_fate 0 ys (step (receive packet) w).world)
 
 -- Any list of calls from any setup; any requester, whatever its unit, since a primitive and its reply are one packet each at every unit; any tag, slot, opcode, TAG and CPSP; any buffer of at least 16 bytes; any later list of calls.
 abbrev pub PrimitiveAnswered : Type 0

@@ -1,13 +1,12 @@
 -- A LOST RESPONSE COMES AGAIN: what a Replay sends, of document 02, from the requester's primitive to the requester's store. The proofs:
 -- `replay_same`, `replay_returns` (proofs/Replay).
 -- Assumes nothing.
-use Rattle.std.specs.Prelude.{ℕ, ◌≤◌, ◌≡◌, true, List, [], ◌∷◌, length, take}
+use Rattle.std.specs.Prelude.{ℕ, ◌≤◌, ◌≡◌, true, List, [], ◌∷◌, Some, length, take}
 use Rattle.machine.specs.Calls.{Call, receive}
 use Rattle.machine.specs.History.{History, next, run}
 use Rattle.machine.specs.Demands.{Every, fate, delivered}
 use Rattle.machine.specs.Replays.{held_at, is_replay, SentAgain}
 use Rattle.machine.specs.declared.Response.{Response}
-use Rattle.machine.specs.declared.Held.TheVariants.{Last}
 use Rattle.controller.specs.State.{Valid}
 use Rattle.controller.specs.Send.{send_says, primitive_to}
 use Rattle.controller.specs.declared.Primitive.{Primitive}
@@ -21,7 +20,7 @@ use Rattle.round_trip.specs.Response.{is_unsent, sent_until, Returned}
 abbrev pub ReplaySame : Type 0
 ReplaySame =
     Every (λ h. (i : ℕ) → i ≤ 1 → is_unsent i h ≡ true → (ys : List Call) (d : History) → fate i ys h ≡ delivered d
-    → (zs : List Call) (p : List ℕ) (r : Response) → ((run zs d).trace i).entries ≡ (h.trace i).entries → held_at (run zs d).world i ≡ Last r
+    → (zs : List Call) (p : List ℕ) (r : Response) → ((run zs d).trace i).entries ≡ (h.trace i).entries → held_at (run zs d).world i ≡ Some r
     → is_replay i (run zs d).world.endpoint.eid p ≡ true → (us : List Call) (k : History) → fate i us (next (receive p) (run zs d)) ≡ delivered k
     → sent_until i us (next (receive p) (run zs d)) ≡ sent_until i ys h)
 
@@ -41,7 +40,7 @@ pub record ComesAgain (h : History) (i : ℕ) (p : List ℕ) : Type 0 where
 -- `replay_arrives` that the last packet is handed out.)
 abbrev pub ReplayReturns : Type 0
 ReplayReturns =
-    Every (λ h. (i : ℕ) → i ≤ 1 → (held : Response) → held_at h.world i ≡ Last held → (r : Requester) (tag primitive_tag : ℕ) (buffer : List ℕ) → Valid r → tag ≤ 7
+    Every (λ h. (i : ℕ) → i ≤ 1 → (held : Response) → held_at h.world i ≡ Some held → (r : Requester) (tag primitive_tag : ℕ) (buffer : List ℕ) → Valid r → tag ≤ 7
     → 16 ≤ length buffer
     → (send_says (primitive_to r h.world.endpoint.eid tag (replay_of i primitive_tag) buffer).answer ≡ (0, 16 ∷ []))
     × ComesAgain h i (take 16 (primitive_to r h.world.endpoint.eid tag (replay_of i primitive_tag) buffer).buffer))

@@ -1,4 +1,1 @@
-pub mod Other
-pub mod Placed
-pub mod Rows
 pub mod Stores

@@ -6,4 +6,4 @@ use Rattle.crc32c.proofs.byte_step.Goals as goal
 
 pub returns : goal.returns
 unfolding byte_step
-returns c = by_table c.args.table.now c.requires (bit_xor c.args.x c.args.b)
+returns c = rw c.from.ensures (by_table c.args.table.now c.requires (bit_xor c.args.x c.args.b))

@@ -1,12 +1,9 @@
--- The invariant is over what is left: putting the rest in hex gives what is wanted.
-use Rattle.std.proofs.Common.{length, ◌-◌, ◌≡◌, ◌+◌, ◌*◌, ◌≤◌, drop}
-use Rattle.lent.specs.Bytes.{put}
+-- Two digits a byte so far; with the rest in hex behind them the line is what is wanted.
+use Rattle.std.proofs.Common.{◌≡◌, ◌++◌, ◌+◌, ◌*◌, length, drop}
 use Rattle.log_records.specs.Records.{hex}
 use Rattle.log_records.proofs.hex.Given as goal
 
-abbrev pub invariant-loop-i : goal.invariant-loop-i
-invariant-loop-i l =
-    (l.i ≤ length l.bytes) × (l.o ≡ l.at + 2 * l.i) × (put l.out l.o (hex (drop l.i l.bytes)) ≡ put l.fn.out l.at (hex l.bytes))
-
-abbrev pub decreases-loop-i : goal.decreases-loop-i
-decreases-loop-i l = length l.bytes - l.i
+abbrev pub invariant-loop-byte : goal.invariant-loop-byte
+invariant-loop-byte l =
+    (length l.line.items ≡ length l.initial.line.items + 2 * l.byte-index)
+    × (l.line.items ++ hex (drop l.byte-index l.bytes) ≡ l.initial.line.items ++ hex l.bytes)

@@ -34,5 +34,5 @@ module _ (unit k n : ℕ) (route : Route) (message out front exit : List ℕ) (e
 pub returns : goal.returns
 returns c =
     let a = c.args in
-    let w = written a.unit a.k c.smaller-n.result a.route a.message.now a.out.now _ _ _ c.smaller-n.ensures (last_left a.unit (length a.message.now) a.k c.requires.0 c.requires.1) c.write_header.ensures c.put.ensures in
-    record { value = w.0; out_after = w.1 }
+    let w = written a.unit a.k c.min-n.result a.route a.message.now a.out.now _ _ _ c.min-n.ensures (last_left a.unit (length a.message.now) a.k c.requires.0 c.requires.1) c.write_header.ensures c.put.ensures in
+    record { value = w.0; out_after = w.1; fits = omega (arith, c.requires) }

@@ -5,8 +5,8 @@ use Rattle.machine.specs.Finish.{was_declared}
 use Rattle.machine.proofs.Keeps.{declared_valid}
 use Rattle.take.proofs.declare.Goals as goal
 
-pub returns-in-Matched-clause-valid : goal.returns-in-Matched-clause-valid
+pub invariant_of-endpoint : goal.invariant_of-endpoint
 unfolding was_declared
-returns-in-Matched-clause-valid c =
-    let e : c.ended-in-Matched.result ≡ was_declared c.args.endpoint c.args.slot c.args.ticket c.args.can = grind (arith, common_steps) in
-    rw e (declared_valid c.args.endpoint c.args.slot c.args.ticket c.args.can c.requires)
+invariant_of-endpoint c =
+    let e : c.mark.new.endpoint ≡ (was_declared c.endpoint.inside.state c.args.slot c.args.ticket c.args.can).endpoint = grind (arith, common_steps) in
+    rw e (declared_valid c.endpoint.inside.state c.args.slot c.args.ticket c.args.can c.endpoint.invariant)

@@ -5,8 +5,8 @@ use Rattle.machine.specs.Finish.{taken}
 use Rattle.machine.proofs.Keeps.{taken_valid}
 use Rattle.take.proofs.take.Goals as goal
 
-pub returns-clause-valid : goal.returns-clause-valid
+pub invariant_of-endpoint : goal.invariant_of-endpoint
 unfolding taken
-returns-clause-valid c =
-    let e : c.with_mark.result ≡ (taken c.args.endpoint c.args.slot).endpoint = grind (arith, common_steps) in
-    rw e (taken_valid c.args.endpoint c.args.slot c.requires)
+invariant_of-endpoint c =
+    let e : c.mark.new.endpoint ≡ (taken c.endpoint.inside.state c.args.slot).endpoint = grind (arith, common_steps) in
+    rw e (taken_valid c.endpoint.inside.state c.args.slot c.endpoint.invariant)

@@ -1,0 +1,21 @@
+// A requester whose invariant holds: setup makes one, and every call keeps it one. Clauses see it as the requester.
+ghost use Rattle.controller.specs.State.{Valid};
+ghost use Rattle.controller.specs.declared.Requester.{Requester};
+
+use crate::Requester;
+use std::marker::Model;
+
+#[derive(Clone, Copy)]
+pub struct ValidRequester {
+    pub state: Requester,
+}
+
+impl Model for ValidRequester {
+    ghost Value = { Requester };
+
+    ghost view = { λ v. v.state };
+
+    ghost invariant = { λ v. Valid v.state };
+
+    ghost inverse = { λ r. record { state = r } };
+}
