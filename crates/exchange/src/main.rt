@@ -35,7 +35,8 @@ const COMMAND_TAG: u8 = 1;
 
 const CONTROL_TAG: u8 = 2;
 
-// The packets that one loop of polls hands out at most: both slots' longest responses, and a control reply behind each.
+// The packets that one loop of polls hands out at most: both slots' longest responses, and a control reply behind each. It is
+// rounded up by hand, since a constant's value can have no call.
 const MOST_POLLS: usize = 4 * ((STORE_SIZE + UNIT - 1) / UNIT);
 
 // What a call answered. A write that fails is let go: the program shows both ends, and nothing hangs on what it prints.

@@ -144,7 +144,8 @@ impl Received {
     }
 }
 
-// Document 01's number for what receiving a packet answers.
+// Document 01's number for what receiving a packet answers. `answer_number` of `refusals` is for calls that give nothing: one function for both would have
+// to be told the numbers of what is given.
 pub fn receive_number(answer: Result<Received, Refusal>) -> u8
     ensures { result ≡ receive_says answer }
 {

@@ -18,7 +18,8 @@ fn slot_of(body: &[u8]) -> usize
     word(body, 0) as usize
 }
 
-// The answer of a setup, whose endpoint takes the place of the one before.
+// The answer of a setup, whose endpoint takes the place of the one before. Each end has its own,
+// since the two calls answer two types.
 fn setup_step(rt: &impl Print, endpoint: &mut ValidEndpoint, body: &[u8]) -> io::Result<()>
     requires { 1 ≤ length body.now }
 {

@@ -11,7 +11,8 @@ use controller::{Gathered, Primitive, ValidRequester};
 use refusals::{Refusal, answer_number};
 use std::io;
 
-// The answer of a setup, whose requester takes the place of the one before.
+// The answer of a setup, whose requester takes the place of the one before. Each end has its own,
+// since the two calls answer two types.
 fn setup_step(rt: &impl Print, requester: &mut ValidRequester, body: &[u8]) -> io::Result<()>
     requires { 1 ≤ length body.now }
 {

@@ -65,7 +65,7 @@ fn ready(endpoint: &Endpoint) -> Option<(SlotNumber, Outgoing)>
 }
 
 // A control reply goes if the last packet was not control or no command packet is ready; else a command packet that is ready. Gives the packet's
-// length.
+// length. Inside a call the state is open, so that the invariant is a clause.
 fn hand_out(
     endpoint: &mut Endpoint,
     store0: &Store,

@@ -1,4 +1,5 @@
 // Receiving one packet, in document 01's order: the header, then the first packet of a message or a later one, then its slot.
+// The requester has steps of the same names: each is proved equal to its own end's definition, over two slots here and over one assembly there.
 #![tactic(auto)]
 
 ghost use Rattle.std.specs.Prelude.{◌≡◌, ◌≤◌, length};

@@ -26,7 +26,7 @@ fn end_in(slot: &mut Slot, source: u8, tag: u8)
     }
 }
 
-// An assembly with this source and tag, in either slot, ends.
+// An assembly with this source and tag, in either slot, ends. There are two calls, as in `slots::pause`.
 #[tactic(auto, unfolding(machine::specs::Receive::end_assembly))]
 pub fn end_assembly(endpoint: &mut Endpoint, source: u8, tag: u8)
     ensures { endpoint.new ≡ end_assembly endpoint.old source tag }

@@ -38,7 +38,8 @@ pub fn first_command(
     gather_in(endpoint, store0, store1, slot, 0, header, message)
 }
 
-// SOM 0. 22, 16 and 23 send the slot that gathers under this source and tag to Idle.
+// SOM 0. 22, 16 and 23 send the slot that gathers under this source and tag to Idle. Inside a call the state is
+// open, so that the invariant is a clause.
 #[tactic(auto, using(mctp::proofs::Laws::joins), unfolding(machine::specs::Receive::later, machine::specs::Receive::later_at))]
 pub fn later(
     endpoint: &mut Endpoint,

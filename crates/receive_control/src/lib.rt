@@ -43,7 +43,7 @@ fn resume_slot(slot: &mut Slot)
     slot.phase = released(slot.phase);
 }
 
-// Resume: clears both flags.
+// Resume: clears both flags. There are two calls, as in `slots::pause`.
 #[tactic(auto, unfolding(machine::specs::Control::resume))]
 fn resume(endpoint: &mut Endpoint)
     ensures { endpoint.new ≡ Control.resume endpoint.old }

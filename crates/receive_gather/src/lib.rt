@@ -49,8 +49,8 @@ fn land(
     }
 }
 
-// A command's packet that is not refused: its payload goes behind the bytes so far in the slot's store. That there is room is a clause, here and where a
-// message is put into a store: it is of two lengths, and of no value alone.
+// A command's packet that is not refused: its payload goes behind the bytes so far in the slot's store. That there is room is a clause, here and
+// wherever a length has to lie within a store: lengths are numbers in the definitions of specs/, and have no type of their own.
 #[tactic(auto, unfolding(machine::specs::Receive::gathered))]
 fn gather(
     endpoint: &mut Endpoint,

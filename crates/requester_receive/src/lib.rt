@@ -1,4 +1,6 @@
 // The requester receives one packet, as the endpoint does with TO and ROR turned round: the header, then the first packet of a message or a later one.
+// Its steps have the names of the endpoint's and are functions of their own: each is proved equal to this end's definition, over a state without slots.
+// Inside a call the state is open, so that the invariant is a clause of them.
 #![tactic(auto)]
 
 ghost use Rattle.std.specs.Prelude.{◌≡◌, List, ℕ, ◌+◌, ◌≤◌, length, take, Ok};

@@ -16,7 +16,8 @@ use refusals::Refusal;
 // The check of a control request stands behind its first eight bytes.
 const CHECK_PLACE: usize = 8;
 
-// The way of a packet from this requester: TO 1, under the caller's tag.
+// The way of a packet from this requester: TO 1, under the caller's tag. The endpoint's is a function of its own: one for both would take all four
+// fields of a `Route`.
 fn route_from(requester: &Requester, destination: u8, tag: u8) -> Route
     ensures { result ≡ route_from requester.now destination tag }
 {

@@ -97,7 +97,7 @@ fn pause_slot(slot: &mut Slot)
     }
 }
 
-// Pause: sets the flag of each slot that is not Idle.
+// Pause: sets the flag of each slot that is not Idle. There are two calls, since over `for slot in &mut endpoint.slots` the proof didn't close.
 #[tactic(auto, unfolding(machine::specs::Control::pause))]
 pub fn pause(endpoint: &mut Endpoint)
     ensures { endpoint.new ≡ Control.pause endpoint.old }
