@@ -11,9 +11,12 @@ const LAST_TICKET: u32 = u32::MAX;
 // An MI command of 20 bytes for slot 0, from EID 9 to EID 8 under tag 1.
 const COMMAND: [u8; 24] = *b"\x01\x08\x09\xc9\x84\x08\0\0\0\0\0\0\0\0\0\0\0\0\0\0\xe2\x00\x06\x07";
 
+// A vector's name and check, each by a write of its own; one that fails is let go.
 fn vector(rt: &impl Print, name: &str, bytes: &[u8]) {
     let check = crc32c::crc32c(bytes);
-    let _ = println!(rt; "crc32c {name} {check:08x}");
+    let _ = print!(rt; "crc32c ");
+    let _ = print!(rt; "{name}");
+    let _ = println!(rt; " {check:08x}");
 }
 
 // The last is the SCSI Read(10) command of RFC 3720, B.4.

@@ -1,6 +1,12 @@
 // The controller's end: a requester's state, and what its calls answer. What every call answers and leaves is defined in specs/.
 #![tactic(auto)]
 
+ghost use Rattle.std.specs.Prelude.{◌≡◌};
+ghost use Rattle.refusals.specs.Refusals.{numbered};
+ghost use Rattle.controller.specs.Send.{send_says};
+ghost use Rattle.controller.specs.Receive.{receive_says};
+
+pub mod answers;
 mod valid;
 
 use machine::Assembly;
@@ -55,4 +61,26 @@ pub enum Gathered {
     More,
     Response(usize),
     Control(usize),
+}
+
+// Document 02's number for what receiving a packet answers.
+pub fn gathered_number(answer: Result<Gathered, Refusal>) -> u8
+    ensures { result ≡ (receive_says (numbered answer)).0 }
+{
+    match answer {
+        Ok(Gathered::More) => answers::MORE_TO_COME,
+        Ok(Gathered::Response(_)) => answers::COMMAND_COMPLETE,
+        Ok(Gathered::Control(_)) => answers::CONTROL_DONE,
+        Err(refusal) => refusal.number(),
+    }
+}
+
+// The same of cutting a command and of building a control primitive.
+pub fn sent_number(answer: Result<usize, Refusal>) -> u8
+    ensures { result ≡ (send_says (numbered answer)).0 }
+{
+    match answer {
+        Ok(_) => answers::DONE,
+        Err(refusal) => refusal.number(),
+    }
 }

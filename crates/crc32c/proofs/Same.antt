@@ -16,11 +16,11 @@ use Rattle.crc32c.specs.Reflected.{reversed, bit_step, bit_steps, byte_step, thr
 use Rattle.crc32c.proofs.Entries.{entries, at_each}
 
 -- a bit is 0 or 1
-low : (a : ℕ) → a % 2 < 2
+pub low : (a : ℕ) → a % 2 < 2
 low a = mod-lt a (zero-lt-suc 1)
 
 -- what holds of 0 and of 1 holds of every bit
-of_bits : (P : ℕ → Type 0) → P 0 → P 1 → (t : ℕ) → t < 2 → P t
+pub of_bits : (P : ℕ → Type 0) → P 0 → P 1 → (t : ℕ) → t < 2 → P t
 of_bits P p q zero h = p
 of_bits P p q (suc zero) h = q
 of_bits P p q (suc (suc t)) h = absurd (not-suc-le-zero (le_of_suc-le-suc (le_of_suc-le-suc h)))

@@ -4,9 +4,10 @@
 // whose sender falls silent is given up by a timeout, and a reset ends it. It prints each answer, and the lengths of messages and packets.
 #![tactic(auto)]
 
-use controller::{Gathered, Primitive, ValidRequester};
+use controller::{Gathered, Primitive, ValidRequester, gathered_number};
+use machine::answers::DONE;
 use machine::sizes::{HEADER_SIZE, STORE_SIZE};
-use machine::{Ticket, ValidEndpoint, receive_number};
+use machine::{Ticket, ValidEndpoint, polled_number, receive_number};
 use nvme_mi::Opcode;
 use refusals::{Refusal, answer_number};
 use std::fmt::Display;
@@ -39,9 +40,11 @@ const CONTROL_TAG: u8 = 2;
 // rounded up by hand, since a constant's value can have no call.
 const MOST_POLLS: usize = 4 * ((STORE_SIZE + UNIT - 1) / UNIT);
 
-// What a call answered. A write that fails is let go: the program shows both ends, and nothing hangs on what it prints.
+// What a call answered, its words and its number each by a write of its own. A write that fails is let go: the program shows both ends, and nothing
+// hangs on what it prints.
 fn say(rt: &impl Print, what: &str, n: impl Display + Drop) {
-    let _ = println!(rt; "{what} {n}");
+    let _ = print!(rt; "{what} ");
+    let _ = println!(rt; "{n}");
 }
 
 // The endpoint and its slots' two stores.
@@ -62,19 +65,17 @@ struct Controller {
 // The words of what the requester answers to a packet: 0 where more are to come, or a whole message.
 fn gather_words(rt: &impl Print, answer: Result<Gathered, Refusal>) {
     match answer {
-        Ok(Gathered::More) => say(rt, "requester receive", 0),
         Ok(Gathered::Response(n)) => say(rt, "requester response of", n),
         Ok(Gathered::Control(n)) => say(rt, "requester control reply of", n),
-        Err(refusal) => say(rt, "requester receive", refusal.number()),
+        Ok(Gathered::More) | Err(_) => say(rt, "requester receive", gathered_number(answer)),
     }
 }
 
 // The words of a poll's answer.
 fn poll_words(rt: &impl Print, answer: Result<Option<usize>, Refusal>) {
     match answer {
-        Ok(None) => say(rt, "poll", 0),
         Ok(Some(n)) => say(rt, "packet of", n),
-        Err(refusal) => say(rt, "poll", refusal.number()),
+        Ok(None) | Err(_) => say(rt, "poll", polled_number(answer)),
     }
 }
 
@@ -149,7 +150,7 @@ impl Board {
         true
     }
 
-    // Polls, at most MOST_POLLS times, until one hands out nothing: by then the endpoint has sent all that it had.
+    // Polls until one hands out nothing. The count ends the loop, whatever the endpoint has to send.
     fn send_all(&mut self, rt: &impl Print, controller: &mut Controller) {
         for _ in 0..MOST_POLLS {
             if !self.poll_once(rt, controller) {
@@ -171,7 +172,7 @@ impl Board {
         let answer = endpoint::timeout(&mut self.endpoint, 0);
         say(rt, "timeout", answer_number(answer));
         endpoint::reset(&mut self.endpoint);
-        say(rt, "reset", 0);
+        say(rt, "reset", DONE);
     }
 }
 

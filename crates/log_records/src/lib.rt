@@ -2,8 +2,9 @@
 #![tactic(auto)]
 
 ghost use Rattle.std.specs.Prelude.{◌≡◌, [], ◌∷◌, ◌++◌, ◌+◌, ◌*◌, ◌≤◌, ◌<◌, length};
+ghost use Rattle.lent.specs.Bytes;
 ghost use Rattle.log_records.specs.Records;
-ghost use Rattle.log_records.specs.Records.{packet_room, tag_of, is_record, headed, hex_digit, number_line, packet_line};
+ghost use Rattle.log_records.specs.Records.{packet_room, line_room, tag_of, is_record, headed, hex_digit, number_line, packet_line};
 
 use arrayvec::ArrayVec;
 
@@ -144,4 +145,37 @@ pub fn packet_line(line: &mut Line, packet: &[u8])
     line.push(b' ');
     hex(line, packet);
     line.push(b'\n');
+}
+
+// Copies a line to the front of a lent buffer, which may be longer, and returns the line's length. The bytes behind it stay. It and the two below are
+// for a buffer that is a caller's own: a `Line` has a fixed room and can't be a part of one.
+pub fn put_line(buffer: &mut [u8], line: &Line) -> usize
+    requires { line_room ≤ length buffer.old }
+    ensures value { (result ≡ length line.now.items) × (result ≤ line_room) }
+    ensures line_after { buffer.new ≡ Bytes.put buffer.old 0 line.now.items }
+{
+    lent::put(buffer, 0, line.as_slice());
+    line.len()
+}
+
+// Writes the line of `number_line` to the front of a lent buffer, and returns its length. The bytes behind it stay.
+pub fn number_line_to_slice(line: &mut [u8], n: u8) -> usize
+    requires { line_room ≤ length line.old }
+    ensures value { (result ≡ length (number_line n)) × (result ≤ line_room) }
+    ensures line_after { line.new ≡ Bytes.put line.old 0 (number_line n) }
+{
+    let mut text = Line::new();
+    number_line(&mut text, n);
+    put_line(line, &text)
+}
+
+// Writes the line of `packet_line` to the front of a lent buffer, and returns its length. The bytes behind it stay.
+pub fn packet_line_to_slice(line: &mut [u8], packet: &[u8]) -> usize
+    requires { (line_room ≤ length line.old) × (length packet.now ≤ packet_room) }
+    ensures value { (result ≡ length (packet_line 1 packet.now)) × (result ≤ line_room) }
+    ensures line_after { line.new ≡ Bytes.put line.old 0 (packet_line 1 packet.now) }
+{
+    let mut text = Line::new();
+    packet_line(&mut text, packet);
+    put_line(line, &text)
 }

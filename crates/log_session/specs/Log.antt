@@ -1,12 +1,13 @@
 -- "The log program": what a record prints, and the session that it leaves.
 -- Assumes nothing.
-use Rattle.std.specs.Prelude.{ℕ, List, [], ◌∷◌, Option, Result, Ok, Err, min, take, drop, replicate, get_or, set}
-use Rattle.lent.specs.Bytes.{byte_at}
-use Rattle.log_records.specs.Records.{number_line, packet_line, log_unit, packet_room}
+use Rattle.std.specs.Prelude.{ℕ, ◌≤◌, ◌≡◌, List, [], ◌∷◌, Option, Result, Ok, Err, length, min, take, drop, replicate, get_or, set}
+use Rattle.lent.specs.Bytes.{byte_at, put}
+use Rattle.log_records.specs.Records.{number_line, packet_line, log_unit, packet_room, line_room}
 use Rattle.machine.specs.State.{World, world, Outcome, Done, ticket}
 use Rattle.machine.specs.Receive.{received}
 use Rattle.machine.specs.Finish.{TakeDone, taken, take_says, completed, timed_out, was_reset, was_set_up}
 use Rattle.machine.specs.Poll.{Polled, poll_says, polled}
+use Rattle.machine.specs.Valid.{Valid}
 use Rattle.machine.specs.declared.Ticket.{Ticket}
 use Rattle.machine.specs.declared.Endpoint.{Endpoint}
 use Rattle.log_records.specs.declared.Tag.{Tag}
@@ -106,3 +107,13 @@ recorded s a b Timeout body = timeout_recorded s a b (byte_at body 0)
 recorded s a b Take body = take_recorded s a b (byte_at body 0)
 recorded s a b Complete body = complete_recorded s a b (byte_at body 0) (drop 1 body)
 recorded s a b Reset body = reset_recorded s a b
+
+-- the length that the code answers, the line that it was lent (before and after), the session and both stores afterwards are what the definition says
+pub record Told (r : Recorded) (before after : List ℕ) (size : ℕ) (s : Session) (store0 store1 : List ℕ) : Type 0 where
+  pub length_told : size ≡ length r.line
+  pub line_told : after ≡ put before 0 r.line
+  pub session_told : s ≡ r.session
+  pub store0_told : store0 ≡ r.store0
+  pub store1_told : store1 ≡ r.store1
+  pub short : length r.line ≤ line_room
+  pub still_valid : Valid s.endpoint

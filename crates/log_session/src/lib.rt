@@ -3,11 +3,12 @@
 
 ghost use Rattle.std.specs.Prelude.{◌≡◌, true, List, ℕ, ◌≤◌, length, IfOk, IfSome};
 ghost use Rattle.refusals.specs.Refusals.{numbered};
-ghost use Rattle.log_records.specs.Records.{packet_room, is_record};
-ghost use Rattle.log_session.specs.Log.{poll_line, at_start, recorded_to, recorded, packet_recorded, poll_recorded, timeout_recorded, take_recorded, complete_recorded, reset_recorded};
+ghost use Rattle.log_records.specs.Records.{packet_room, line_room, is_record};
+ghost use Rattle.log_session.specs.Log.{poll_line, at_start, recorded_to, recorded, packet_recorded, poll_recorded, timeout_recorded, take_recorded, complete_recorded, reset_recorded, Told};
 
-use log_records::{Line, PACKET_ROOM, Tag, UNIT, number_line, packet_line};
-use machine::{Ticket, ValidEndpoint, receive_number};
+use log_records::{Line, PACKET_ROOM, Tag, UNIT, number_line, packet_line, put_line};
+use machine::answers::DONE;
+use machine::{Ticket, ValidEndpoint, polled_number, receive_number, taken_number};
 use refusals::{Refusal, answer_number};
 
 // The log program's endpoint.
@@ -26,10 +27,10 @@ fn poll_line(line: &mut Line, buffer: &[u8], answer: Result<Option<usize>, Refus
     requires packet_fits { IfOk answer (λ sent. IfSome sent (λ n. n ≤ length buffer.now)) }
     ensures { line.new.items ≡ poll_line buffer.now (numbered answer) }
 {
-    match answer {
-        Ok(None) => number_line(line, 0),
-        Ok(Some(n)) => packet_line(line, &buffer[..n]),
-        Err(refusal) => number_line(line, refusal.number()),
+    if let Ok(Some(n)) = answer {
+        packet_line(line, &buffer[..n]);
+    } else {
+        number_line(line, polled_number(answer));
     }
 }
 
@@ -65,13 +66,11 @@ fn timeout_record(session: &mut Session, slot: usize, line: &mut Line)
 fn take_record(session: &mut Session, slot: usize, line: &mut Line)
     ensures { (a b : List ℕ) → recorded_to line.new.items session.new a b ≡ take_recorded session.old a b slot }
 {
-    match endpoint::take(&mut session.endpoint, slot) {
-        Ok(ticket) => {
-            session.tickets[slot.min(1)] = ticket;
-            number_line(line, 0);
-        }
-        Err(refusal) => number_line(line, refusal.number()),
+    let answer = endpoint::take(&mut session.endpoint, slot);
+    if let Ok(ticket) = answer {
+        session.tickets[slot.min(1)] = ticket;
     }
+    number_line(line, taken_number(answer));
 }
 
 // Completes with the ticket last taken from the slot.
@@ -94,7 +93,7 @@ fn reset_record(session: &mut Session, line: &mut Line)
     ensures { (a b : List ℕ) → recorded_to line.new.items session.new a b ≡ reset_recorded session.old a b }
 {
     endpoint::reset(&mut session.endpoint);
-    number_line(line, 0);
+    number_line(line, DONE);
 }
 
 // The session at the start.
@@ -136,4 +135,23 @@ pub fn record(
         ),
         Tag::Reset => reset_record(session, line),
     }
+}
+
+// Does what a record says, writes the line that it prints to the front of a lent buffer, and returns the line's length. The bytes behind it stay.
+pub fn record_to_slice(
+    session: &mut Session,
+    store0: &mut [u8],
+    store1: &mut [u8],
+    tag: Tag,
+    body: &[u8],
+    line: &mut [u8],
+) -> usize
+    requires { (is_record tag (length body.now) ≡ true) × (line_room ≤ length line.old) }
+    ensures { Told (recorded session.old store0.old store1.old tag body.now) line.old line.new result session.new store0.new store1.new }
+{
+    let mut text = Line::new();
+    record(session, store0, store1, tag, body, &mut text);
+    // The endpoint's field is named here so that its invariant is known of the state that is left.
+    let _ = &session.endpoint.state;
+    put_line(line, &text)
 }

@@ -9,7 +9,7 @@ use lib.Dec.{eqb, ltb}
 use lib.ListN.{length, take, drop}
 use lib.Seq.{take-append_seam}
 use borrow.Author.Tests.{eq-eqb, ne_eqb, ltb-true, ltb-false, leb-true, le-leb, not-true}
-use Rattle.std.specs.Prelude.{Option, None, Some, if◌then◌else◌}
+use Rattle.std.specs.Prelude.{Option, None, Some, is_some, if◌then◌else◌}
 use Rattle.std.proofs.lemmas.Bool.{and_parts}
 use Rattle.lent.proofs.Choice.{if_ind, if_second, false_true, differ}
 use Rattle.mctp.specs.Cut.{payload, packet}
@@ -103,7 +103,7 @@ poll_case w buffer s =
     by room None a (Some (i, r)) e = goes_out room i r (found e)
     by room (Some reply) a None e = control_goes reply a (λ c n. absurd (n (unpaused e c)))
     by room (Some reply) a (Some (i, r)) e =
-        if_ind After (reply_first w.endpoint) (λ b. control_goes reply a (λ c n. not-true w.endpoint.last_control b)) (λ _. goes_out room i r (found e))
+        if_ind After (reply_first w.endpoint) (λ b. control_goes reply a (λ c n. not-true w.endpoint.last_control (and_parts (is_some w.endpoint.reply) (not w.endpoint.last_control) b).1)) (λ _. goes_out room i r (found e))
 
 -- ---- what the trace gains of a packet
 

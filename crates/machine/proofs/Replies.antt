@@ -605,7 +605,8 @@ poll_does w buffer s =
     by None a (Some (i, r)) e = command_goes i r e (λ waits. false_true (sym (ap is_some a) ∙ waits))
     by (Some reply) a None e = reply_goes reply a
     by (Some reply) a (Some (i, r)) e =
-        if_ind After (reply_first w.endpoint) (λ _. reply_goes reply a) (λ first. command_goes i r e (λ _. not-false w.endpoint.last_control first))
+        if_ind After (reply_first w.endpoint) (λ _. reply_goes reply a)
+        (λ first. command_goes i r e (λ waits. not-false w.endpoint.last_control (rw waits at first)))
 
 -- ---- what any call does
 

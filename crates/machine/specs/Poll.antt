@@ -1,6 +1,7 @@
 -- "Polling".
 -- Assumes nothing.
-use Rattle.std.specs.Prelude.{ℕ, ◌+◌, Bool, not, ◌||◌, List, [], ◌∷◌, ◌++◌, Option, None, Some, Result, Ok, Err, eqb, ltb, length, take, drop, if◌then◌else◌}
+use Rattle.std.specs.Prelude.{ℕ, ◌+◌, Bool, not, ◌&&◌, ◌||◌, List, [], ◌∷◌, ◌++◌, Option, None, Some, Result, Ok, Err, eqb, ltb, length, take, drop, if◌then◌else◌}
+use Rattle.std.specs.Option.{is_some}
 use Rattle.mctp.specs.Cut.{packets, packet}
 use Rattle.machine.specs.Answers.{nothing_to_send, packet_sent_number, short_buffer, wrong_stores_number}
 use Rattle.machine.specs.State.{World, outgoing, slot_at, store_at, with_slot, with_phase, holding, reply_sent, packet_sent}
@@ -100,9 +101,9 @@ sent_command w i r buffer =
     (packet_sent (with_slot w.endpoint i (after_packet w.endpoint.unit (slot_at w.endpoint i) r)) (other_slot i))
     buffer
 
--- a control reply that waits goes before a command packet: the last packet handed out was not control
+-- a control reply waits, and the last packet handed out was not control
 abbrev pub reply_first : Endpoint → Bool
-reply_first e = not e.last_control
+reply_first e = is_some e.reply && not e.last_control
 
 -- "If a control reply waits and either the last packet handed out was not control or no command packet is ready, it goes. Otherwise a
 -- ready command packet goes, else answer 0."

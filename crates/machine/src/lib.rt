@@ -2,9 +2,13 @@
 #![tactic(auto)]
 
 ghost use Rattle.std.specs.Prelude.{◌≡◌};
+ghost use Rattle.refusals.specs.Refusals.{numbered};
 ghost use Rattle.machine.specs.Answers.{received_number, receive_says};
+ghost use Rattle.machine.specs.Finish.{take_says};
+ghost use Rattle.machine.specs.Poll.{poll_says};
 ghost use Rattle.machine.specs.Receive.{assembly};
 
+pub mod answers;
 pub mod flags;
 pub mod sizes;
 mod valid;
@@ -152,5 +156,26 @@ pub fn receive_number(answer: Result<Received, Refusal>) -> u8
     match answer {
         Ok(received) => received.number(),
         Err(refusal) => refusal.number(),
+    }
+}
+
+// The same of taking.
+pub fn taken_number(answer: Result<Ticket, Refusal>) -> u8
+    ensures { result ≡ (take_says (numbered answer)).0 }
+{
+    match answer {
+        Ok(_) => answers::DONE,
+        Err(refused) => refused.number(),
+    }
+}
+
+// The same of polling.
+pub fn polled_number(answer: Result<Option<usize>, Refusal>) -> u8
+    ensures { result ≡ (poll_says (numbered answer)).0 }
+{
+    match answer {
+        Ok(None) => answers::NOTHING_TO_SEND,
+        Ok(Some(_)) => answers::PACKET_SENT,
+        Err(refused) => refused.number(),
     }
 }

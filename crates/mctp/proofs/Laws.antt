@@ -1,7 +1,8 @@
 -- Laws of setup, and of a message's packets: how many there are and which is the last, what each carries, and that each is read as it was cut.
 -- Assumes nothing.
-use Prim.Native.Nat.{ℕ, min, suc, ◌+◌, ◌-◌, ◌*◌, ◌/◌, ◌%◌, ◌≤◌, ◌<◌}
+use Prim.Native.Nat.{ℕ, min, zero, suc, ◌+◌, ◌-◌, ◌*◌, ◌/◌, ◌%◌, ◌≤◌, ◌<◌}
 use native.Mathlib.Nat.{le-div_iff_mul-le, div-lt_iff_lt-mul, lt-div-mul-add, mod-lt, mul-zero}
+use native.Mathlib.Numerals.{add-one}
 use native.Mathlib.Omega.{arith}
 use mathlib.Core.Path.{◌≡◌, refl, sym, ◌∙◌}
 use mathlib.Core.Logic.{◌↔◌}
@@ -117,6 +118,15 @@ one_packet unit route message some fits =
     let last : eqb (0 + 1) (packets unit (length message)) ≡ true =
     last_packet unit (length message) 0 (omega arith) inside ∙ le-leb (length message) (unit * 0 + unit) (rw mul-zero (omega arith)) in
     rw (last, mul-zero, take_all unit message fits) refl
+
+-- the first payloads one behind another
+abbrev pub payloads : ℕ → List ℕ → ℕ → List ℕ
+payloads unit message zero = []
+payloads unit message (suc k) = payloads unit message k ++ payload unit message k
+
+pub payloads_join : (unit : ℕ) (message : List ℕ) (k : ℕ) → payloads unit message k ≡ take (unit * k) message
+payloads_join unit message zero = rw mul-zero
+payloads_join unit message (suc k) = rw (payloads_join unit message k, payload_next unit message k, add-one)
 
 -- ---- how each is read
 

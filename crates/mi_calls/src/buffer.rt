@@ -1,7 +1,7 @@
 // A buffer that a record asks for, and the words of what a call has written there.
 ghost use Rattle.std.specs.Prelude.{◌≡◌, ◌≤◌, length};
 
-use crate::line::{hex, number};
+use crate::line::{field, hex, number};
 use std::io;
 
 // The longest buffer that a record can ask for, and what each of its bytes is before the call.
@@ -35,7 +35,9 @@ pub(crate) fn unwritten_words(rt: &impl Print, answer: u8, buffer: &[u8]) -> io:
 pub(crate) fn written_words(rt: &impl Print, answer: u8, buffer: &[u8], n: usize) -> io::Result<()>
     requires { n ≤ length buffer.now }
 {
-    print!(rt; "{answer} {n} ")?;
+    number(rt, answer)?;
+    field(rt, " ", n)?;
+    print!(rt; " ")?;
     hex(rt, &buffer[..n])?;
     blank_words(rt, &buffer[n..])
 }

@@ -16,7 +16,9 @@ ghost use Rattle.std.specs.Prelude.{◌≡◌, ◌≤◌, length, IfOk};
 ghost use Rattle.mi_calls.specs.Sizes.{least_size};
 
 use controller::ValidRequester;
+use line::number;
 use machine::ValidEndpoint;
+use machine::answers::DONE;
 use machine::sizes::{LEAST_UNIT, STORE_SIZE};
 use record::called;
 use requester_record::requester_called;
@@ -141,7 +143,7 @@ impl Session {
             Tag::EndpointStores => {
                 self.lent0 = Lent::new(half(body, 0))?;
                 self.lent1 = Lent::new(half(body, 2))?;
-                print!(rt; "0")
+                number(rt, DONE)
             }
             Tag::Endpoint(call) => {
                 let (lent0, lent1) = (self.lent0, self.lent1);
@@ -156,7 +158,7 @@ impl Session {
             }
             Tag::RequesterStore => {
                 self.lent = Lent::new(half(body, 0))?;
-                print!(rt; "0")
+                number(rt, DONE)
             }
             Tag::Requester(call) => {
                 let lent = self.lent;

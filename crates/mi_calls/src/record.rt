@@ -3,11 +3,12 @@ ghost use Rattle.std.specs.Prelude.{◌≤◌, length, IfOk, IfSome};
 ghost use Rattle.mi_calls.specs.Sizes.{least_of_endpoint};
 
 use crate::buffer::{blank_buffer, unwritten_words, written_words};
-use crate::line::{hex, number};
+use crate::line::{field, hex, number};
 use crate::look::look;
 use crate::tags::{EndpointCall, mark};
 use crate::words::{half, unit_of, word};
-use machine::{Ticket, ValidEndpoint, receive_number};
+use machine::answers::DONE;
+use machine::{Ticket, ValidEndpoint, polled_number, receive_number, taken_number};
 use refusals::{Refusal, answer_number};
 use std::io;
 
@@ -30,9 +31,10 @@ fn setup_step(rt: &impl Print, endpoint: &mut ValidEndpoint, body: &[u8]) -> io:
 
 // `0 TICKET`, or the refusal's number.
 fn take_words(rt: &impl Print, answer: Result<Ticket, Refusal>) -> io::Result<()> {
+    number(rt, taken_number(answer))?;
     match answer {
-        Ok(ticket) => print!(rt; "0 {}", ticket.0),
-        Err(refusal) => number(rt, refusal.number()),
+        Ok(ticket) => field(rt, " ", ticket.0),
+        Err(_) => Ok(()),
     }
 }
 
@@ -45,7 +47,8 @@ fn read_step(
     slot: usize,
 ) -> io::Result<()> {
     let part = endpoint::request(endpoint, store0, store1, slot);
-    print!(rt; "{} ", part.len())?;
+    print!(rt; "{}", part.len())?;
+    print!(rt; " ")?;
     hex(rt, part)
 }
 
@@ -57,9 +60,8 @@ fn poll_words(
     requires { IfOk answer (λ sent. IfSome sent (λ n. n ≤ length buffer.now)) }
 {
     match answer {
-        Ok(Some(n)) => written_words(rt, 1, buffer, n),
-        Ok(None) => unwritten_words(rt, 0, buffer),
-        Err(refusal) => unwritten_words(rt, refusal.number(), buffer),
+        Ok(Some(n)) => written_words(rt, polled_number(answer), buffer, n),
+        Ok(None) | Err(_) => unwritten_words(rt, polled_number(answer), buffer),
     }
 }
 
@@ -129,7 +131,7 @@ pub(crate) fn called(
         }
         EndpointCall::Reset => {
             endpoint::reset(endpoint);
-            number(rt, 0)
+            number(rt, DONE)
         }
         EndpointCall::Look => look(rt, &endpoint.state, store0, store1),
         EndpointCall::Declare => {

@@ -3,11 +3,11 @@ ghost use Rattle.std.specs.Prelude.{◌≤◌, length, IfOk};
 ghost use Rattle.mi_calls.specs.Sizes.{least_of_requester};
 
 use crate::buffer::{blank_buffer, unwritten_words, written_words};
-use crate::line::number;
+use crate::line::{field, number};
 use crate::look::requester_look;
 use crate::tags::RequesterCall;
 use crate::words::{half, unit_of, word};
-use controller::{Gathered, Primitive, ValidRequester};
+use controller::{Gathered, Primitive, ValidRequester, gathered_number, sent_number};
 use refusals::{Refusal, answer_number};
 use std::io;
 
@@ -26,8 +26,8 @@ fn send_words(rt: &impl Print, buffer: &[u8], answer: Result<usize, Refusal>) ->
     requires { IfOk answer (λ n. n ≤ length buffer.now) }
 {
     match answer {
-        Ok(n) => written_words(rt, 0, buffer, n),
-        Err(refusal) => unwritten_words(rt, refusal.number(), buffer),
+        Ok(n) => written_words(rt, sent_number(answer), buffer, n),
+        Err(_) => unwritten_words(rt, sent_number(answer), buffer),
     }
 }
 
@@ -65,11 +65,10 @@ fn primitive_step(rt: &impl Print, requester: &ValidRequester, body: &[u8]) -> i
 
 // `1 LENGTH`, `2 LENGTH`, or another answer's number.
 fn receive_words(rt: &impl Print, answer: Result<Gathered, Refusal>) -> io::Result<()> {
+    number(rt, gathered_number(answer))?;
     match answer {
-        Ok(Gathered::More) => number(rt, 0),
-        Ok(Gathered::Response(n)) => print!(rt; "1 {n}"),
-        Ok(Gathered::Control(n)) => print!(rt; "2 {n}"),
-        Err(refusal) => number(rt, refusal.number()),
+        Ok(Gathered::Response(n) | Gathered::Control(n)) => field(rt, " ", n),
+        Ok(Gathered::More) | Err(_) => Ok(()),
     }
 }
 

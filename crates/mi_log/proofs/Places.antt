@@ -4,6 +4,7 @@ use Prim.Native.Nat.{ℕ, zero, suc, ◌+◌, ◌-◌, ◌≤◌}
 use mathlib.Core.Path.{◌≡◌, refl, ap, sym, ◌∙◌}
 use mathlib.Core.Bool.{Bool, true, false}
 use mathlib.Core.List.{List, [], ◌∷◌, ◌++◌}
+use native.Mathlib.Nat.{le_refl, le_trans}
 use native.Mathlib.Omega.{arith}
 use lib.Dec.{eqb}
 use lib.ListN.{length, take, drop, length-take, length-drop}
@@ -97,8 +98,8 @@ missed_within {n} h w =
     if_ind (λ (x : Held). Within x.run n) h.run.ended (λ _. over_within h (last_line h.input) w)
     (λ _. record { first = w.first; last = w.last })
 
-pub within_as : {q q' : Run} {n : ℕ} → Within q' n → q ≡ q' → Within q n
-within_as w e = rw e w
+pub within_as : {q q' : Run} {n n' : ℕ} → Within q' n → q ≡ q' → n ≤ n' → Within q n'
+within_as w e wide = rw e (record { first = w.first; last = le_trans w.last wide })
 
 -- the unread input, where a turn says it
 pub input_is : (buf : List ℕ) {q : Run} {input out a b : List ℕ} {h : Held} → held q input out a b ≡ h → unread h.run buf ≡ input
@@ -144,4 +145,4 @@ flushed_empty room whole h e =
 pub flushed_places : (room : ℕ) (out out' : List ℕ) {n : ℕ} {q r : Run}
     → ((input a b : List ℕ) → held q input out' a b ≡ flushed room (is_on q.next) (held r input out a b)) → Within r n → Within q n
 flushed_places room out out' {n} {q} {r} o w =
-    within_as (flushed_within room (is_on q.next) (held r [] out [] []) w) (ap (λ (x : Held). x.run) (o [] [] []))
+    within_as (flushed_within room (is_on q.next) (held r [] out [] []) w) (ap (λ (x : Held). x.run) (o [] [] [])) (le_refl _)

@@ -14,7 +14,7 @@ use Rattle.std.specs.Prelude.{Result, Ok, Err}
 use Rattle.crc32c.specs.Crc32c.{crc32c}
 use Rattle.crc32c.proofs.Same.{crc32c_lt}
 use Rattle.nvme_mi.specs.Check.{four_bytes, word_at, with_check, check_right}
-use Rattle.nvme_mi.specs.Response.{response, fault_body}
+use Rattle.nvme_mi.specs.Response.{response, failure_body, fault_body}
 use Rattle.nvme_mi.specs.declared.Fault.{Fault}
 use Rattle.nvme_mi.specs.declared.Fault.TheVariants.{InvalidOpcode, Parameter, InvalidSize}
 
@@ -38,6 +38,9 @@ check_of_own s =
     let m : length s + 4 - 4 ≡ length s = omega arith in
     let e : 4 ≤ length s + 4 = omega arith in
     rw (length_with_check s, le-ltb _ _ e, m, word_four s (crc32c s) (crc32c_lt s), take-append_seam s (four_bytes (crc32c s))) (eq-eqb (crc32c s) (crc32c s) refl)
+
+pub failure_body_length : (status : ℕ) → length (failure_body status) ≡ 4
+failure_body_length status = refl
 
 pub fault_body_length : (tested : Result (Unit {0}) Fault) → length (fault_body tested) ≡ 4
 fault_body_length (Ok none) = refl

@@ -16,12 +16,16 @@ unfoldable pub response : ℕ → ℕ → List ℕ → List ℕ
 unfolding with_check
 response nmimt csi body = with_check (response_header nmimt csi ++ body)
 
+-- an error that names no place: its status, then three zeros
+abbrev pub failure_body : ℕ → List ℕ
+failure_body status = status ∷ 0 ∷ 0 ∷ 0 ∷ []
+
 -- Status 04h is followed by the bit number, then the byte number in two bytes; other errors by three zeros.
 abbrev pub fault_body : Result (Unit {0}) Fault → List ℕ
 fault_body (Ok none) = success ∷ 0 ∷ 0 ∷ 0 ∷ []
 fault_body (Err (Parameter byte bit)) = invalid_parameter ∷ bit ∷ low_high byte
-fault_body (Err InvalidOpcode) = invalid_opcode ∷ 0 ∷ 0 ∷ 0 ∷ []
-fault_body (Err InvalidSize) = invalid_size ∷ 0 ∷ 0 ∷ 0 ∷ []
+fault_body (Err InvalidOpcode) = failure_body invalid_opcode
+fault_body (Err InvalidSize) = failure_body invalid_size
 
 -- a control primitive's success reply: 00h, TAG, CPSR
 abbrev pub success_body : ℕ → ℕ → List ℕ

@@ -4,7 +4,7 @@
 ghost use Rattle.std.specs.Prelude.{◌≡◌, ◌++◌, ◌+◌, ◌≤◌, length, take, drop, IfOk};
 ghost use Rattle.nvme_mi.specs.Message.{message_header, kind_number, NamesKind, shortest, opcode_number, NamesOpcode, command_fault, control_fault, fault_in};
 ghost use Rattle.nvme_mi.specs.Check.{check_right, word_at, with_check};
-ghost use Rattle.nvme_mi.specs.Response.{response, fault_body, success_body};
+ghost use Rattle.nvme_mi.specs.Response.{response, failure_body, fault_body, success_body};
 
 // The fields of bytes 1 and 2 of a message. CSI is the command slot.
 #[derive(Clone, Copy)]
@@ -67,6 +67,13 @@ pub const CONTROL_SIZE: usize = 12;
 // NMIMT of control primitives and their replies. It is a number and no `Kind`: as the kind of a command it is unknown (`command_fault`).
 pub const CONTROL: u8 = 0;
 
+// The shortest command of each kind, with its check.
+const SHORTEST_MI: usize = 20;
+
+const SHORTEST_ADMIN: usize = 72;
+
+const SHORTEST_PCIE: usize = 24;
+
 // Reads the header of a message.
 pub fn read_message_header(message: &[u8]) -> MessageHeader
     requires { 3 ≤ length message.now }
@@ -104,9 +111,9 @@ impl Kind {
         ensures { result ≡ shortest (kind_number self) }
     {
         match self {
-            Kind::Mi => 20,
-            Kind::Admin => 72,
-            Kind::Pcie => 24,
+            Kind::Mi => SHORTEST_MI,
+            Kind::Admin => SHORTEST_ADMIN,
+            Kind::Pcie => SHORTEST_PCIE,
         }
     }
 }
@@ -205,15 +212,22 @@ pub fn write_response(store: &mut [u8], nmimt: u8, csi: u8, body: &[u8])
     write_check(store, body.len() + HEADER_SIZE);
 }
 
+// The four body bytes of an error that names no place, whatever its status.
+pub fn failure_body(status: u8) -> [u8; 4]
+    ensures { result ≡ failure_body status }
+{
+    [status, 0, 0, 0]
+}
+
 // The four body bytes of the response to what was tested: an error's, or success.
 pub fn fault_body(tested: Result<(), Fault>) -> [u8; 4]
     ensures { result ≡ fault_body tested }
 {
     match tested {
         Ok(()) => [Status::Success as u8, 0, 0, 0],
-        Err(Fault::InvalidOpcode) => [Status::InvalidOpcode as u8, 0, 0, 0],
+        Err(Fault::InvalidOpcode) => failure_body(Status::InvalidOpcode as u8),
         Err(Fault::Parameter(byte, bit)) => [Status::InvalidParameter as u8, bit, byte, 0],
-        Err(Fault::InvalidSize) => [Status::InvalidSize as u8, 0, 0, 0],
+        Err(Fault::InvalidSize) => failure_body(Status::InvalidSize as u8),
     }
 }
 

@@ -3,7 +3,8 @@
 
 ghost use Rattle.std.specs.Prelude.{◌≡◌};
 ghost use Rattle.slots.specs.Numbers.{at_number};
-ghost use Rattle.machine.specs.State.{slot_at};
+ghost use Rattle.machine.specs.State.{slot_at, with_slot, with_phase};
+ghost use Rattle.machine.specs.declared.Phase.{Phase};
 ghost use Rattle.machine.specs.Receive;
 ghost use Rattle.machine.specs.Receive.{is_from, ended_slot, end_assembly, holder_in};
 
@@ -54,4 +55,11 @@ pub fn holder(endpoint: &Endpoint, source: u8, tag: u8) -> Option<(SlotNumber, A
     let second = SlotNumber { number: 1 };
     let in_first = found_in(endpoint.slots[0].phase, first, source, tag);
     in_first.or(found_in(endpoint.slots[1].phase, second, source, tag))
+}
+
+// The slot is in Receive with this assembly.
+pub fn gathering_on(endpoint: &mut Endpoint, slot: SlotNumber, assembly: Assembly)
+    ensures { endpoint.new ≡ with_slot endpoint.old slot.number (with_phase (slot_at endpoint.old slot.number) (Phase.Receive assembly)) }
+{
+    endpoint.slots[slot.number].phase = Phase::Receive(assembly);
 }

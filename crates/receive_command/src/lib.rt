@@ -14,12 +14,12 @@ use machine::{Endpoint, Phase, Received};
 use mctp::Header;
 use receive_assembly::holder;
 use receive_gather::gather_in;
-use receive_refused::flagged;
+use receive_refused::{flagged, refused_busy};
 use refusals::Refusal;
 use slots::{SlotNumber, drop_slot};
 
 // A command's first packet.
-#[tactic(auto, unfolding(machine::specs::Receive::first_command, machine::specs::Receive::refused_busy))]
+#[tactic(auto, unfolding(machine::specs::Receive::first_command))]
 pub fn first_command(
     endpoint: &mut Endpoint,
     store0: &mut Store,
@@ -32,8 +32,7 @@ pub fn first_command(
     ensures { outcome (receive_says result) (world endpoint.new store0.new store1.new) ≡ first_command (world endpoint.old store0.old store1.old) header slot.number message.now }
 {
     if !matches!(endpoint.slots[slot.number].phase, Phase::Idle(_)) {
-        endpoint.slots[slot.number].busy = true;
-        return Err(Refusal::NotExpected);
+        return Err(refused_busy(endpoint, slot));
     }
     gather_in(endpoint, store0, store1, slot, 0, header, message)
 }

@@ -11,9 +11,10 @@ ghost use Rattle.machine.specs.Receive;
 ghost use Rattle.slots.specs.Placed.{placed};
 
 use machine::sizes::Store;
-use machine::{Assembly, Endpoint, Phase, Received};
+use machine::{Assembly, Endpoint, Received};
 use mctp::Header;
 use opening::Joined;
+use receive_assembly::gathering_on;
 use receive_refused::flagged;
 use refusals::Refusal;
 use slots::{SlotNumber, drop_slot};
@@ -34,7 +35,7 @@ fn land(
     let message = &store[..assembly.length];
     match opening::joined_in(message, eom) {
         Joined::More => {
-            endpoint.slots[slot.number].phase = Phase::Receive(assembly);
+            gathering_on(endpoint, slot, assembly);
             Ok(Received::MoreToCome)
         }
         Joined::Wrong => {

@@ -69,12 +69,15 @@ impl Refusal {
     }
 }
 
+// What a call answers that gives nothing and is not refused.
+pub const DONE: u8 = 0;
+
 // The number of what a call answers that gives nothing: 0, or the refusal's.
 pub fn answer_number(answer: Result<(), Refusal>) -> u8
     ensures { result ≡ answer_number answer }
 {
     match answer {
-        Ok(()) => 0,
+        Ok(()) => DONE,
         Err(refusal) => refusal.number(),
     }
 }

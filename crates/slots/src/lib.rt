@@ -3,10 +3,11 @@
 
 mod slot_number;
 
-ghost use Rattle.std.specs.Prelude.{◌≡◌, IfOk};
+ghost use Rattle.std.specs.Prelude.{◌≡◌, not, ◌||◌, eqb, IfOk};
 ghost use Rattle.refusals.specs.Refusals.{numbered};
 ghost use Rattle.machine.specs.State;
 ghost use Rattle.machine.specs.State.{slot_at, with_slot};
+ghost use Rattle.machine.specs.Wire.{store_size};
 ghost use Rattle.machine.specs.Finish;
 ghost use Rattle.machine.specs.Control;
 ghost use Rattle.slots.specs.Numbers.{AreStores, found_in};
@@ -15,7 +16,7 @@ ghost use Rattle.machine.specs.Control.{paused_slot};
 use machine::sizes::{STORE_SIZE, Store};
 use machine::{Endpoint, Outgoing, Phase, Request, Response, Slot, Taking, Ticket};
 use refusals::Refusal;
-pub use slot_number::SlotNumber;
+pub use slot_number::{SlotNumber, other_slot, store_of};
 
 // Both lent stores. 40: one has another length.
 pub fn both_stores<'a>(
@@ -27,6 +28,13 @@ pub fn both_stores<'a>(
     let store0 = store0.as_array::<STORE_SIZE>().ok_or(Refusal::WrongStores)?;
     let store1 = store1.as_array::<STORE_SIZE>().ok_or(Refusal::WrongStores)?;
     Ok((store0, store1))
+}
+
+// One of the lent stores, of n0 and n1 bytes, has another length. `both_stores` is for who has the stores.
+pub fn wrong_stores(n0: usize, n1: usize) -> bool
+    ensures { result ≡ (not (eqb n0 store_size) || not (eqb n1 store_size)) }
+{
+    n0 != STORE_SIZE || n1 != STORE_SIZE
 }
 
 // A slot that enters Idle loses its pause flag, and holds no response.

@@ -1,5 +1,6 @@
 -- The head decides the row of `turned`.
 use Rattle.std.proofs.Common.{refl, ap, sym, ◌∙◌, arith, length-take, length-drop, Some, None, Ok, Err}
+use native.Mathlib.Nat.{le_refl}
 use Rattle.log_session.specs.Whole.{bad_line}
 use Rattle.log_records.proofs.Heads.{whole}
 use Rattle.mi_log.specs.Run.{Held, held, unread}
@@ -23,7 +24,7 @@ pub returns-in-Err-clause-within : goal.returns-in-Err-clause-within
 returns-in-Err-clause-within c =
     let a = c.args in
     let h = held a.run.now (unread a.run.now a.buf.now) a.out.now.items a.store0.now a.store1.now in
-    within_as (over_within h bad_line c.requires.within) (ap (λ (x : Held). x.run) (c.end_as_bad.ensures h.input a.store0.now a.store1.now))
+    within_as (over_within h bad_line c.requires.within) (ap (λ (x : Held). x.run) (c.end_as_bad.ensures h.input a.store0.now a.store1.now)) (le_refl _)
 
 pub returns-in-Ok-None-clause-leaves : goal.returns-in-Ok-None-clause-leaves
 returns-in-Ok-None-clause-leaves c =
@@ -35,7 +36,7 @@ pub returns-in-Ok-None-clause-within : goal.returns-in-Ok-None-clause-within
 returns-in-Ok-None-clause-within c =
     let a = c.args in
     let h = held a.run.now (unread a.run.now a.buf.now) a.out.now.items a.store0.now a.store1.now in
-    within_as (missed_within h c.requires.within) (ap (λ (x : Held). x.run) (c.ask_for_more.ensures a.store0.now a.store1.now))
+    within_as (missed_within h c.requires.within) (ap (λ (x : Held). x.run) (c.ask_for_more.ensures a.store0.now a.store1.now)) (le_refl _)
 
 pub returns-in-Ok-Some-clause-leaves : goal.returns-in-Ok-Some-clause-leaves
 returns-in-Ok-Some-clause-leaves c =
