@@ -21,7 +21,7 @@ use Rattle.machine.specs.Valid.{Valid, Sound}
 use Rattle.machine.specs.Calls.{poll, number, handed_out, Stepped, stepped, by_poll, step}
 use Rattle.machine.specs.History.{Trace, phase_at, paused_at, is_transmit, moved, sending, transmitted, trace_after, unit_of, has_room, counts}
 use Rattle.machine.specs.Demands.{is_process}
-use Rattle.machine.specs.Types.{Outgoing, Phase, Idle, Receive, Process, Answered, Transmit, Slot, Reply}
+use Rattle.machine.specs.Types.{Outgoing, Phase, Idle, Receive, Process, Answered, Transmit, Slot, Reply, Endpoint}
 use Rattle.machine.proofs.Slots.{other_most}
 use Rattle.machine.proofs.Receiving.{right_stores}
 use Rattle.machine.proofs.Keeps.{Chosen, chosen_at}
@@ -103,7 +103,11 @@ poll_case w buffer s =
     by room None a (Some (i, r)) e = goes_out room i r (found e)
     by room (Some reply) a None e = control_goes reply a (λ c n. absurd (n (unpaused e c)))
     by room (Some reply) a (Some (i, r)) e =
-        if_ind After (reply_first w.endpoint) (λ b. control_goes reply a (λ c n. not-true w.endpoint.last_control (and_parts (is_some w.endpoint.reply) (not w.endpoint.last_control) b).1)) (λ _. goes_out room i r (found e))
+        if_ind After (reply_first w.endpoint) (λ b. control_goes reply a (λ c n. not-true w.endpoint.last_control (and_parts _ _ b).1)) (λ _. goes_out room i r (found e))
+
+-- what goes first is a reply that waits
+pub first_waits : (e : Endpoint) → reply_first e ≡ true → is_some e.reply ≡ true
+first_waits e h = (and_parts _ _ h).0
 
 -- ---- what the trace gains of a packet
 
